@@ -1,0 +1,11 @@
+use Rattle.std.proofs.Common.{sym}
+use Rattle.csv.proofs.RecordFacts.{field-get}
+use Rattle.csv.specs.Records.{fields_of}
+use Rattle.csv_load.proofs.ValueFacts.{field-past}
+use Rattle.csv_load.proofs.records.field_at.Goals as goal
+
+pub returns-in-Some : goal.returns-in-Some
+returns-in-Some c = sym (field-get (fields_of c.args.fields.now) c.args.place c.in-Some.field.now (sym c.in-Some.ensures.value))
+
+pub returns-in-None : goal.returns-in-None
+returns-in-None c = field-past (fields_of c.args.fields.now) c.args.place c.in-None.ensures.value

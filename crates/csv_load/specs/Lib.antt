@@ -1,0 +1,4 @@
+pub mod FileTable
+pub mod Layouts
+pub mod Left
+pub mod Loads

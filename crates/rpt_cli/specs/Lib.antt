@@ -1,0 +1,10 @@
+pub mod Words
+pub mod Course
+pub mod Binding
+pub mod Answer
+pub mod Writing
+pub mod Command
+pub mod Message
+pub mod Delivery
+pub mod Outcome
+pub mod Steps

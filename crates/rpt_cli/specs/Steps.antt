@@ -1,0 +1,31 @@
+-- What the parts of the top call give.
+use Rattle.std.specs.Prelude.{◌≡◌, ◌⊎◌, ℕ, ◌<◌, ◌≤◌, List, length, Result, Ok, Err, Option, Some, None}
+use Rattle.rpt_outside.specs.Causes.{Rose, Tells}
+use Rattle.rpt_cli.specs.declared.refusal.Refusal.{Refusal}
+use Rattle.rpt_cli.specs.declared.refusal.Refusal.TheVariants.{ReadFault, TooLarge, Memory}
+use Rattle.rpt_cli.specs.declared.words.Command.{Command}
+use Rattle.rpt_cli.specs.declared.words.WordsError.{WordsError}
+use Rattle.rpt_cli.specs.declared.words.WordsError.TheVariants as words_error
+
+-- the words' command, or that they are none; or memory ran out
+abbrev pub GivesCommand : Option Command → Result Command WordsError → Type 0
+GivesCommand said (Ok command) = said ≡ Some command
+GivesCommand said (Err words_error.Usage) = said ≡ None
+GivesCommand said (Err words_error.Memory) = Unit {0}
+
+-- why a file isn't had
+abbrev pub Misses : Option (List ℕ) → (List ℕ → ℕ) → (List ℕ → ℕ) → ℕ → List ℕ → Refusal → Type 0
+Misses told before now limit name refusal =
+    (refusal ≡ Memory)
+    ⊎ ((refusal ≡ ReadFault name) × Rose (before name) (now name))
+    ⊎ ((refusal ≡ TooLarge name) × ((bytes : List ℕ) × Tells told bytes × (limit < length bytes)))
+
+-- the contents of a file within the limit, or why they aren't had
+abbrev pub Fetches : Option (List ℕ) → (List ℕ → ℕ) → (List ℕ → ℕ) → ℕ → List ℕ → Result (List ℕ) Refusal → Type 0
+Fetches told before now limit name (Ok bytes) = Tells told bytes × (length bytes ≤ limit)
+Fetches told before now limit name (Err refusal) = Misses told before now limit name refusal
+
+-- what a definition says; or memory ran out
+abbrev pub Makes : {X : Type 0} → Result X Refusal → Result X Refusal → Type 0
+Makes said (Ok x) = said ≡ Ok x
+Makes said (Err e) = (e ≡ Memory) ⊎ (said ≡ Err e)

@@ -1,0 +1,50 @@
+// What the two sinks take of an answer.
+ghost use Rattle.std.specs.Prelude.{◌≡◌};
+ghost use Rattle.rpt_outside.specs.Whole.{bytes_of};
+ghost use Rattle.rpt_cli.specs.Message.{status_of};
+ghost use Rattle.rpt_cli.specs.Delivery.{Delivers, TakesLine};
+
+use crate::message::{put_line, put_text};
+use crate::refusal::Refusal;
+use rpt_outside::Sink;
+
+/// Puts the text, or the line of the refusal, and gives the status.
+pub(crate) fn deliver<S: Sink, M: Sink>(
+    found: Result<Vec<u8>, Refusal>,
+    out: &mut S,
+    messages: &mut M,
+) -> u8
+    ensures { Delivers S.taken S.faults M.taken M.faults out.old out.new messages.old messages.new result (bytes_of found) }
+{
+    match found {
+        Ok(text) => match put_text(&text, out) {
+            Ok(()) => 0,
+            Err(_) => refuse(&Refusal::WriteFault, messages),
+        },
+        Err(refusal) => refuse(&refusal, messages),
+    }
+}
+
+// A fault while the line is put ends the line, and doesn't change the status.
+fn refuse<M: Sink>(refusal: &Refusal, messages: &mut M) -> u8
+    ensures status { result ≡ status_of refusal.now }
+    ensures line { TakesLine M.taken M.faults messages.old messages.new refusal.now }
+{
+    let _ = put_line(refusal, messages);
+    status(refusal)
+}
+
+fn status(refusal: &Refusal) -> u8
+    ensures { result ≡ status_of refusal.now }
+{
+    match refusal {
+        Refusal::Memory => 1,
+        Refusal::Usage => 2,
+        Refusal::ReadFault { .. } => 3,
+        Refusal::WriteFault => 4,
+        Refusal::NotScript => 5,
+        Refusal::CannotBind => 6,
+        Refusal::BadTable { .. } => 7,
+        Refusal::TooLarge { .. } | Refusal::TooManyRows => 10,
+    }
+}

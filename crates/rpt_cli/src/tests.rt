@@ -1,0 +1,331 @@
+use crate::run_command;
+use rpt_outside::{MemoryFiles, MemorySink, OpenGate};
+use std::alloc::{AllocError, Global};
+use std::process::Abort;
+use std::test::Fail;
+use std::thread::Threads;
+
+const SCRIPT: &str = "CREATE TABLE t (x INT, y TEXT); SELECT y FROM t WHERE x = 2;";
+
+const TABLE: &[u8] = b"x,y\n1,a\n2,b\n3,c\n";
+
+const ROOM: u32 = 1_048_576;
+
+// What a call answered, and what the two sinks took.
+#[derive(Drop)]
+struct Ran {
+    status: u8,
+    out: MemorySink,
+    messages: MemorySink,
+}
+
+fn texts(alloc: Global, words: &[&str]) -> Result<Vec<String>, AllocError> {
+    let mut all = Vec::new(alloc);
+    for word in words {
+        all.push(String::from_str(alloc, word)?)?;
+    }
+    Ok(all)
+}
+
+fn files_of(alloc: Global, script: &[u8], table: &[u8], fail: &[u32]) -> Result<MemoryFiles, Fail> {
+    let mut files = Vec::new(alloc);
+    files.push((b"q.sql".to_vec(alloc)?, script.to_vec(alloc)?))?;
+    files.push((b"d/t.csv".to_vec(alloc)?, table.to_vec(alloc)?))?;
+    Ok(MemoryFiles::new(alloc, files, fail.to_vec(alloc)?, 65_536)?)
+}
+
+fn run_over<R: Threads + Sync>(
+    rt: &R,
+    alloc: Global,
+    words: &[&str],
+    mut files: MemoryFiles,
+    mut out: MemorySink,
+    mut messages: MemorySink,
+) -> Result<Ran, Fail> {
+    let words = texts(alloc, words)?;
+    let status = run_command(
+        rt,
+        alloc,
+        &words,
+        &mut files,
+        &mut out,
+        &mut messages,
+        &OpenGate,
+    );
+    Ok(Ran {
+        status,
+        out,
+        messages,
+    })
+}
+
+fn sink(alloc: Global) -> Result<MemorySink, Fail> {
+    Ok(MemorySink::new(alloc, ROOM, Vec::new(alloc))?)
+}
+
+// A run of the script over one table, whose calls on the files fail by number.
+fn run<R: Threads + Sync>(
+    rt: &R,
+    alloc: Global,
+    script: &[u8],
+    table: &[u8],
+    fail: &[u32],
+) -> Result<Ran, Fail> {
+    let files = files_of(alloc, script, table, fail)?;
+    run_over(
+        rt,
+        alloc,
+        &["run", "q.sql", "d"],
+        files,
+        sink(alloc)?,
+        sink(alloc)?,
+    )
+}
+
+fn answers(rt: &impl Abort, ran: &Ran, text: &[u8]) {
+    assert_eq!(rt; ran.messages.bytes(), b"".as_slice());
+    assert_eq!(rt; ran.out.bytes(), text);
+    assert_eq!(rt; ran.status, 0);
+}
+
+fn refuses(rt: &impl Abort, ran: &Ran, status: u8, line: &str) {
+    assert_eq!(rt; ran.messages.bytes(), line.as_bytes());
+    assert_eq!(rt; ran.out.bytes(), b"".as_slice());
+    assert_eq!(rt; ran.status, status);
+}
+
+#[test]
+fn one_table_from_bytes_to_bytes(rt: HostRuntime) -> Result<(), Fail> {
+    let cases: [(&str, &[u8], &[u8]); 6] = [
+        (SCRIPT, TABLE, b"y\nb\n"),
+        (
+            "create table t (x int) ; select x from T",
+            b"x\n-9223372036854775808\n9223372036854775807\n",
+            b"x\n-9223372036854775808\n9223372036854775807\n",
+        ),
+        (
+            "CREATE TABLE t (y TEXT, x INT); SELECT y, x FROM t",
+            b"\xEF\xBB\xBFx,extra,y\r\n1,-,\"a,\"\"b\"\"\nc\"\r\n",
+            b"y,x\n\"a,\"\"b\"\"\nc\",1\n",
+        ),
+        (
+            "CREATE TABLE t (x INT, y TEXT); SELECT y FROM t WHERE x = 3",
+            b"x,y\n1,apple\n3,\n4,it's\n",
+            b"y\n\"\"\n",
+        ),
+        (
+            "CREATE TABLE t (x INT, y TEXT); SELECT x, x FROM t WHERE y = 'it''s';",
+            b"x,y\n1,apple\n3,\n4,it's\n-7,it's\n",
+            b"x,x\n4,4\n-7,-7\n",
+        ),
+        (
+            "CREATE TABLE t (x INT); SELECT x FROM t WHERE x = -1",
+            b"x\n",
+            b"x\n",
+        ),
+    ];
+    for (script, table, text) in cases {
+        answers(&rt, &run(&rt, rt.alloc(), script.as_bytes(), table, &[])?, text);
+    }
+    Ok(())
+}
+
+#[test]
+fn bad_tables_are_refused(rt: HostRuntime) -> Result<(), Fail> {
+    let tables: [&[u8]; 5] = [
+        b"",
+        b"x,x,y\n",
+        b"x,y\n1\n",
+        b"x,y\n1,a\n2,\xFF\n",
+        b"x,y\n0,a\n9223372036854775808,b\n",
+    ];
+    for table in tables {
+        refuses(
+            &rt,
+            &run(&rt, rt.alloc(), SCRIPT.as_bytes(), table, &[])?,
+            7,
+            "rpt: t: bad table\n",
+        );
+    }
+    Ok(())
+}
+
+#[test]
+fn scripts_that_do_not_bind_are_refused(rt: HostRuntime) -> Result<(), Fail> {
+    let scripts = [
+        "CREATE TABLE t (x INT); SELECT x FROM s",
+        "CREATE TABLE t (x INT, X TEXT); SELECT x FROM t",
+        "CREATE TABLE t (x INT); SELECT y FROM t",
+        "CREATE TABLE t (x INT); SELECT x FROM t WHERE y = 1",
+        "CREATE TABLE t (x INT); SELECT x FROM t WHERE x = 'a'",
+        "CREATE TABLE t (y TEXT); SELECT y FROM t WHERE y = 1",
+    ];
+    for script in scripts {
+        refuses(
+            &rt,
+            &run(&rt, rt.alloc(), script.as_bytes(), TABLE, &[])?,
+            6,
+            "rpt: cannot bind\n",
+        );
+    }
+    Ok(())
+}
+
+// A script that declares so many columns c0, c1 and so on, and the header that they ask for.
+fn columns(alloc: Global, count: u32) -> Result<(String, String), AllocError> {
+    let mut script = String::from_str(alloc, "CREATE TABLE t (")?;
+    let mut header = String::new(alloc);
+    for number in 0..count {
+        let comma = if number == 0 { "" } else { "," };
+        script.push_str(format!(in alloc; "{comma}c{number} INT")?.as_str())?;
+        header.push_str(format!(in alloc; "{comma}c{number}")?.as_str())?;
+    }
+    script.push_str("); SELECT c0 FROM t")?;
+    header.push_str("\n")?;
+    Ok((script, header))
+}
+
+#[test]
+fn a_table_has_at_most_64_columns(rt: HostRuntime) -> Result<(), Fail> {
+    let (script, header) = columns(rt.alloc(), 64)?;
+    let ran = run(&rt, rt.alloc(), script.as_bytes(), header.as_bytes(), &[])?;
+    answers(&rt, &ran, b"c0\n");
+    let (script, header) = columns(rt.alloc(), 65)?;
+    let ran = run(&rt, rt.alloc(), script.as_bytes(), header.as_bytes(), &[])?;
+    refuses(&rt, &ran, 6, "rpt: cannot bind\n");
+    Ok(())
+}
+
+#[test]
+fn words_that_are_no_command_are_refused(rt: HostRuntime) -> Result<(), Fail> {
+    let alloc = rt.alloc();
+    let cases: [&[&str]; 7] = [
+        &[],
+        &["run", "q.sql"],
+        &["walk", "q.sql", "d"],
+        &["Run", "q.sql", "d"],
+        &["run", "-q.sql", "d"],
+        &["run", "q.sql", "-"],
+        &["run", "q.sql", "d", "--help"],
+    ];
+    for words in cases {
+        let files = files_of(alloc, SCRIPT.as_bytes(), TABLE, &[])?;
+        let ran = run_over(&rt, alloc, words, files, sink(alloc)?, sink(alloc)?)?;
+        refuses(
+            &rt,
+            &ran,
+            2,
+            "rpt: usage: rpt run|explain|check|sample SCRIPT DIR [--filter bloom|exact|none] [--workers N] [--morsel N] [--order A,B] [--force]\n",
+        );
+    }
+    Ok(())
+}
+
+#[test]
+fn scripts_of_another_form_are_refused(rt: HostRuntime) -> Result<(), Fail> {
+    for script in ["", "CREATE TABLE t (x INT); SELECT * FROM t", "SELECT x FROM t"] {
+        refuses(
+            &rt,
+            &run(&rt, rt.alloc(), script.as_bytes(), TABLE, &[])?,
+            5,
+            "rpt: not a script\n",
+        );
+    }
+    Ok(())
+}
+
+#[test]
+fn a_missing_file_cannot_be_read(rt: HostRuntime) -> Result<(), Fail> {
+    let alloc = rt.alloc();
+    let files = MemoryFiles::new(alloc, Vec::new(alloc), Vec::new(alloc), 65_536)?;
+    let ran = run_over(
+        &rt,
+        alloc,
+        &["run", "q.sql", "d"],
+        files,
+        sink(alloc)?,
+        sink(alloc)?,
+    )?;
+    refuses(&rt, &ran, 3, "rpt: cannot read q.sql\n");
+    let files = files_of(alloc, SCRIPT.as_bytes(), TABLE, &[])?;
+    let ran = run_over(
+        &rt,
+        alloc,
+        &["run", "q.sql", "e"],
+        files,
+        sink(alloc)?,
+        sink(alloc)?,
+    )?;
+    refuses(&rt, &ran, 3, "rpt: cannot read e/t.csv\n");
+    Ok(())
+}
+
+// Each file is started once and read twice: its bytes, and then its end.
+#[test]
+fn no_failed_call_is_passed_over(rt: HostRuntime) -> Result<(), Fail> {
+    for call in 0..3 {
+        let ran = run(&rt, rt.alloc(), SCRIPT.as_bytes(), TABLE, &[call])?;
+        refuses(&rt, &ran, 3, "rpt: cannot read q.sql\n");
+    }
+    for call in 3..6 {
+        let ran = run(&rt, rt.alloc(), SCRIPT.as_bytes(), TABLE, &[call])?;
+        refuses(&rt, &ran, 3, "rpt: cannot read d/t.csv\n");
+    }
+    let ran = run(&rt, rt.alloc(), SCRIPT.as_bytes(), TABLE, &[6])?;
+    answers(&rt, &ran, b"y\nb\n");
+    Ok(())
+}
+
+#[test]
+fn a_failed_put_ends_the_output(rt: HostRuntime) -> Result<(), Fail> {
+    let alloc = rt.alloc();
+    let files = files_of(alloc, SCRIPT.as_bytes(), TABLE, &[])?;
+    let out = MemorySink::new(alloc, ROOM, vec![in alloc; (0, 2)]?)?;
+    let ran = run_over(&rt, alloc, &["run", "q.sql", "d"], files, out, sink(alloc)?)?;
+    assert_eq!(rt; ran.status, 4);
+    assert_eq!(rt; ran.out.bytes(), b"y\n".as_slice());
+    assert_eq!(rt; ran.messages.bytes(), b"rpt: cannot write\n".as_slice());
+    Ok(())
+}
+
+// The first piece of a line has at least its first four bytes, and a fault there leaves the status.
+#[test]
+fn a_failed_message_leaves_the_status(rt: HostRuntime) -> Result<(), Fail> {
+    let alloc = rt.alloc();
+    let files = files_of(alloc, b"", TABLE, &[])?;
+    let messages = MemorySink::new(alloc, ROOM, vec![in alloc; (0, 4)]?)?;
+    let ran = run_over(&rt, alloc, &["run", "q.sql", "d"], files, sink(alloc)?, messages)?;
+    refuses(&rt, &ran, 5, "rpt:");
+    Ok(())
+}
+
+#[test]
+fn a_text_is_put_in_pieces_of_65536_bytes(rt: HostRuntime) -> Result<(), Fail> {
+    let alloc = rt.alloc();
+    let mut table = b"x,y\n".to_vec(alloc)?;
+    for _ in 0..20_000 {
+        table.extend_from_slice(b"2,abcde\n")?;
+    }
+    for (put, taken) in [(0, 0), (1, 65_536), (2, 65_536)] {
+        let files = files_of(alloc, SCRIPT.as_bytes(), &table, &[])?;
+        let out = MemorySink::new(alloc, ROOM, vec![in alloc; (put, 0)]?)?;
+        let ran = run_over(&rt, alloc, &["run", "q.sql", "d"], files, out, sink(alloc)?)?;
+        let (status, length) = if put == 2 { (0, 120_002) } else { (4, taken) };
+        assert_eq!(rt; ran.status, status);
+        assert_eq!(rt; ran.out.bytes().len(), length);
+    }
+    Ok(())
+}
+
+#[test]
+fn a_script_has_at_most_1048576_bytes(rt: HostRuntime) -> Result<(), Fail> {
+    let alloc = rt.alloc();
+    let mut script = SCRIPT.as_bytes().to_vec(alloc)?;
+    for _ in script.len()..1_048_576 {
+        script.push(b' ')?;
+    }
+    answers(&rt, &run(&rt, rt.alloc(), &script, TABLE, &[])?, b"y\nb\n");
+    script.push(b' ')?;
+    refuses(&rt, &run(&rt, rt.alloc(), &script, TABLE, &[])?, 10, "rpt: too large: q.sql\n");
+    Ok(())
+}

@@ -1,0 +1,75 @@
+// The top call.
+ghost use Rattle.std.specs.Prelude.{◌≡◌, ◌≢◌, ◌⊎◌, ◌<◌, ◌+◌, ◌-◌, ◌^◌, List, ℕ, min, IsOk, IsOkAnd, IfSome};
+ghost use Rattle.std.specs.Io.KnownBytes.{Appends};
+ghost use Rattle.rpt_outside.specs.Causes.{Rose};
+ghost use Rattle.rpt_outside.specs.Whole.{bytes_of};
+ghost use Rattle.rpt_cli.specs.Words.{command_of, words_of};
+ghost use Rattle.rpt_cli.specs.Course.{Gives, NoneRose, outcome};
+ghost use Rattle.rpt_cli.specs.Command.{course};
+ghost use Rattle.rpt_cli.specs.Outcome.{Answers};
+
+use crate::deliver::deliver;
+use crate::follow::follow;
+use crate::refusal::Refusal;
+use crate::words::{WordsError, read_words};
+use rpt_outside::{Files, Gate, Sink};
+use std::alloc::Global;
+use std::thread::Threads;
+
+/// Answers the words of a command line, without the program's name, and gives the status.
+///
+/// The words `run SCRIPT DIR` put the answer of the script over the table's file in the folder to `out`, and the status is
+/// 0. Otherwise one line is put to `messages`, and the status says why: 1 want of memory, 2 no command, 3 a file can't be
+/// read, 4 the output can't be written, 5 no script, 6 the script doesn't bind, 7 a bad table, 10 a file is too large or a
+/// table has too many rows. Nothing is put to `out` then, but on status 4 a prefix of the text.
+pub fn run_command<R: Threads + Sync, F: Files, S: Sink, M: Sink, G: Gate + Sync>(
+    rt: &R,
+    alloc: Global,
+    words: &[String],
+    files: &mut F,
+    out: &mut S,
+    messages: &mut M,
+    gate: &G,
+) -> u8
+    // The whole truth: some answer has its cause, and is what was delivered.
+    ensures answers { Answers (F.contents files.old) (F.faults files.old) (F.faults files.new)
+        S.taken S.faults M.taken M.faults (course (words_of words.now))
+        out.old out.new messages.old messages.new result }
+
+    // Where the files tell what the command asks for, the output is the text of that.
+    ensures text { result ≡ 0 → IfSome (outcome (F.contents files.old) (course (words_of words.now))) (λ answer.
+        IsOkAnd answer (λ text. Appends (S.taken out.old) (S.taken out.new) text)) }
+
+    // No usage, read fault or write fault without its cause.
+    ensures usage { result ≡ 2 → command_of (words_of words.now) ≡ None }
+    ensures read_fault { result ≡ 3 → (name : List ℕ) × Rose (F.faults files.old name) (F.faults files.new name) }
+    ensures write_fault { result ≡ 4 → Rose (S.faults out.old) (S.faults out.new) }
+
+    // Nothing is put out on any other status, and no message on status 0.
+    ensures silent { result ≢ 0 → result ≢ 4 → out.new ≡ out.old }
+    ensures quiet { result ≡ 0 → messages.new ≡ messages.old }
+
+    // Where no fault comes in between, there is a text, or memory ran out.
+    ensures complete { IfSome (outcome (F.contents files.old) (course (words_of words.now))) (λ answer.
+        IsOk answer
+        → NoneRose (F.contents files.old) (F.faults files.old) (F.faults files.new) (course (words_of words.now))
+        → S.faults out.new < min (S.faults out.old + 1) (2 ^ 64 - 1)
+        → (result ≡ 0) ⊎ (result ≡ 1)) }
+{
+    let _ = rt;
+    let _ = gate;
+    let found = decide(alloc, words, files);
+    deliver(found, out, messages)
+}
+
+// The text that the words ask for, or why there is none.
+fn decide<F: Files>(alloc: Global, words: &[String], files: &mut F) -> Result<Vec<u8>, Refusal>
+    ensures { Gives (F.contents files.old) (F.faults files.old) (F.faults files.new)
+        (course (words_of words.now)) (bytes_of result) }
+{
+    match read_words(alloc, words) {
+        Ok(command) => follow(alloc, &command, files),
+        Err(WordsError::Usage) => Err(Refusal::Usage),
+        Err(WordsError::Memory) => Err(Refusal::Memory),
+    }
+}

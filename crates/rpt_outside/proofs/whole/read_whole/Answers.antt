@@ -1,0 +1,12 @@
+use Rattle.std.proofs.Common.{arith, ◌<◌, length}
+use Rattle.std.proofs.lemmas.Grind.{common_steps}
+use Rattle.std.specs.Io.KnownBytes.{Consumes}
+use Rattle.rpt_outside.proofs.Reading.{too_large, further}
+use Rattle.rpt_outside.proofs.whole.read_whole.Goals as goal
+
+pub returns-then-len-limit-clause-reads : goal.returns-then-len-limit-clause-reads
+returns-then-len-limit-clause-reads g c =
+    let files = g.F.Files in
+    let so_far : Consumes (files.contents c.args.files.now c.args.name.now) (files.left c.read.new.self) c.extend_from_slice.new.self.items = grind (arith, common_steps, further) in
+    let more : c.args.limit < length c.extend_from_slice.new.self.items = omega arith in
+    too_large _ _ _ _ so_far more
