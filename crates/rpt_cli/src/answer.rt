@@ -19,11 +19,11 @@ pub(crate) fn text(alloc: Global, query: &Query, table: &Table) -> Result<Vec<u8
     ensures { IfOk result (λ text. text.items ≡ output_text query.now table.now) }
 {
     let mut writer = WriterBuilder::new().from_writer(Vec::new(alloc));
-    let mut record = ByteRecord::new(alloc);
+    let mut fields = ByteRecord::new(alloc);
     let items = query.items.as_slice();
-    put_titles(&mut record, items)?;
-    write(&mut writer, &record)?;
-    write_rows(&mut writer, &mut record, query, table.rows())?;
+    put_titles(&mut fields, items)?;
+    write(&mut writer, &fields)?;
+    write_rows(&mut writer, &mut fields, query, table.rows())?;
     match writer.into_inner() {
         Ok(text) => Ok(text),
         Err(_) => Err(Memory),
@@ -33,14 +33,14 @@ pub(crate) fn text(alloc: Global, query: &Query, table: &Table) -> Result<Vec<u8
 // Writes the rows of the answer, with one record used again for all of them.
 fn write_rows(
     writer: &mut Writer<Vec<u8>>,
-    record: &mut ByteRecord,
+    fields: &mut ByteRecord,
     query: &Query,
     rows: &[Vec<Value>],
 ) -> Result<(), Memory>
     ensures { (text : List ℕ) → HasWritten writer.old text → OnOk result (HasWritten writer.new (text ++ rows_text query.now (map (λ r. r.items) rows.now))) }
 {
     for row in rows {
-        write_if_passes(writer, record, query, row.as_slice())?;
+        write_if_passes(writer, fields, query, row.as_slice())?;
     }
     Ok(())
 }
@@ -48,7 +48,7 @@ fn write_rows(
 // Writes the row's selected cells, if the row has the value that is asked for.
 fn write_if_passes(
     writer: &mut Writer<Vec<u8>>,
-    record: &mut ByteRecord,
+    fields: &mut ByteRecord,
     query: &Query,
     row: &[Value],
 ) -> Result<(), Memory>
@@ -57,15 +57,15 @@ fn write_if_passes(
     if !has_value(&query.equal, row) {
         return Ok(());
     }
-    put_cells(record, query.items.as_slice(), row)?;
-    write(writer, record)
+    put_cells(fields, query.items.as_slice(), row)?;
+    write(writer, fields)
 }
 
 // Writes a record behind what was written.
-fn write(writer: &mut Writer<Vec<u8>>, record: &ByteRecord) -> Result<(), Memory>
-    ensures { (text : List ℕ) → HasWritten writer.old text → OnOk result (HasWritten writer.new (text ++ row_text default_writer (fields_of record.now))) }
+fn write(writer: &mut Writer<Vec<u8>>, fields: &ByteRecord) -> Result<(), Memory>
+    ensures { (text : List ℕ) → HasWritten writer.old text → OnOk result (HasWritten writer.new (text ++ row_text default_writer (fields_of fields.now))) }
 {
-    match writer.write_byte_record(record) {
+    match writer.write_byte_record(fields) {
         Ok(()) => Ok(()),
         Err(_) => Err(Memory),
     }
@@ -89,12 +89,12 @@ fn is_same(cell: &Value, value: &Value) -> bool
     cell == value
 }
 
-fn put_titles(record: &mut ByteRecord, items: &[Output]) -> Result<(), Memory>
-    ensures { OnOk result (fields_of record.new ≡ titles items.now) }
+fn put_titles(fields: &mut ByteRecord, items: &[Output]) -> Result<(), Memory>
+    ensures { OnOk result (fields_of fields.new ≡ titles items.now) }
 {
-    record.clear();
+    fields.clear();
     for item in items {
-        if record.push_field(item.title.bytes()).is_err() {
+        if fields.push_field(item.title.bytes()).is_err() {
             return Err(Memory);
         }
     }
@@ -102,19 +102,19 @@ fn put_titles(record: &mut ByteRecord, items: &[Output]) -> Result<(), Memory>
 }
 
 // The number's text is written to a buffer on the stack.
-fn put_cells(record: &mut ByteRecord, items: &[Output], row: &[Value]) -> Result<(), Memory>
-    ensures { OnOk result (fields_of record.new ≡ cells items.now row.now) }
+fn put_cells(fields: &mut ByteRecord, items: &[Output], row: &[Value]) -> Result<(), Memory>
+    ensures { OnOk result (fields_of fields.new ≡ cells items.now row.now) }
 {
-    record.clear();
+    fields.clear();
     for item in items {
-        put_cell(record, row, item.place)?;
+        put_cell(fields, row, item.place)?;
     }
     Ok(())
 }
 
-fn put_cell(record: &mut ByteRecord, row: &[Value], place: usize) -> Result<(), Memory>
-    ensures field { OnOk result (partial_of record.old ≡ [] → fields_of record.new ≡ fields_of record.old ++ text_of (slice_get row.now place) ∷ []) }
-    ensures between { OnOk result (partial_of record.new ≡ []) }
+fn put_cell(fields: &mut ByteRecord, row: &[Value], place: usize) -> Result<(), Memory>
+    ensures field { OnOk result (partial_of fields.old ≡ [] → fields_of fields.new ≡ fields_of fields.old ++ text_of (slice_get row.now place) ∷ []) }
+    ensures between { OnOk result (partial_of fields.new ≡ []) }
 {
     let mut buffer = Buffer::new();
     let field = match cell_at(row, place) {
@@ -122,7 +122,7 @@ fn put_cell(record: &mut ByteRecord, row: &[Value], place: usize) -> Result<(), 
         Some(Value::Text(text)) => text.bytes(),
         None => b"",
     };
-    match record.push_field(field) {
+    match fields.push_field(field) {
         Ok(()) => Ok(()),
         Err(_) => Err(Memory),
     }

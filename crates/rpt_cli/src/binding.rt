@@ -60,10 +60,7 @@ pub(crate) fn bind(alloc: Global, script: SmallScript) -> Result<Option<Query>, 
     }))
 }
 
-fn declare(
-    alloc: Global,
-    columns: Listed<(Name, ColumnType)>,
-) -> Result<Vec<ColumnDecl>, Memory>
+fn declare(alloc: Global, columns: Listed<(Name, ColumnType)>) -> Result<Vec<ColumnDecl>, Memory>
     ensures { IfOk result (λ all. all.items ≡ declared columns) }
 {
     match columns
@@ -121,11 +118,7 @@ fn find_items(
     Ok(Some(Listed::from_vec(items)))
 }
 
-fn find_item(
-    alloc: Global,
-    columns: &[ColumnDecl],
-    name: &Name,
-) -> Result<Option<Output>, Memory>
+fn find_item(alloc: Global, columns: &[ColumnDecl], name: &Name) -> Result<Option<Output>, Memory>
     ensures { IfOk result (λ found. found ≡ output_of columns.now name.now) }
 {
     match find_place(columns, name) {

@@ -125,7 +125,11 @@ fn one_table_from_bytes_to_bytes(rt: HostRuntime) -> Result<(), Fail> {
         ),
     ];
     for (script, table, text) in cases {
-        answers(&rt, &run(&rt, rt.alloc(), script.as_bytes(), table, &[])?, text);
+        answers(
+            &rt,
+            &run(&rt, rt.alloc(), script.as_bytes(), table, &[])?,
+            text,
+        );
     }
     Ok(())
 }
@@ -223,7 +227,11 @@ fn words_that_are_no_command_are_refused(rt: HostRuntime) -> Result<(), Fail> {
 
 #[test]
 fn scripts_of_another_form_are_refused(rt: HostRuntime) -> Result<(), Fail> {
-    for script in ["", "CREATE TABLE t (x INT); SELECT * FROM t", "SELECT x FROM t"] {
+    for script in [
+        "",
+        "CREATE TABLE t (x INT); SELECT * FROM t",
+        "SELECT x FROM t",
+    ] {
         refuses(
             &rt,
             &run(&rt, rt.alloc(), script.as_bytes(), TABLE, &[])?,
@@ -294,7 +302,14 @@ fn a_failed_message_leaves_the_status(rt: HostRuntime) -> Result<(), Fail> {
     let alloc = rt.alloc();
     let files = files_of(alloc, b"", TABLE, &[])?;
     let messages = MemorySink::new(alloc, ROOM, vec![in alloc; (0, 4)]?)?;
-    let ran = run_over(&rt, alloc, &["run", "q.sql", "d"], files, sink(alloc)?, messages)?;
+    let ran = run_over(
+        &rt,
+        alloc,
+        &["run", "q.sql", "d"],
+        files,
+        sink(alloc)?,
+        messages,
+    )?;
     refuses(&rt, &ran, 5, "rpt:");
     Ok(())
 }
@@ -326,6 +341,11 @@ fn a_script_has_at_most_1048576_bytes(rt: HostRuntime) -> Result<(), Fail> {
     }
     answers(&rt, &run(&rt, rt.alloc(), &script, TABLE, &[])?, b"y\nb\n");
     script.push(b' ')?;
-    refuses(&rt, &run(&rt, rt.alloc(), &script, TABLE, &[])?, 10, "rpt: too large: q.sql\n");
+    refuses(
+        &rt,
+        &run(&rt, rt.alloc(), &script, TABLE, &[])?,
+        10,
+        "rpt: too large: q.sql\n",
+    );
     Ok(())
 }

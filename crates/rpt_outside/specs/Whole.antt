@@ -1,5 +1,6 @@
 -- What reading a whole file may answer.
-use Rattle.std.specs.Prelude.{ℕ, ◌<◌, ◌≤◌, List, length, Option, Result, Ok, Err, Vec}
+use Rattle.std.specs.Prelude.{◌≡◌, ◌⊎◌, ℕ, ◌<◌, ◌≤◌, Bool, true, false, List, length, Option, Result, Ok, Err, Vec}
+use Rattle.std.specs.Io.KnownBytes.{Consumes}
 use Rattle.rpt_outside.specs.Causes.{Rose, Tells}
 use Rattle.rpt_outside.specs.declared.whole.ReadError.{ReadError}
 use Rattle.rpt_outside.specs.declared.whole.ReadError.TheVariants.{Failed, TooLarge, Memory}
@@ -11,6 +12,17 @@ Reads told limit name before now (Ok bytes) = Tells told bytes × (length bytes 
 Reads told limit name before now (Err Failed) = Rose (before name) (now name)
 Reads told limit name before now (Err TooLarge) = (bytes : List ℕ) × Tells told bytes × (limit < length bytes)
 Reads told limit name before now (Err Memory) = Unit {0}
+
+-- the file of this name is started, and some of its bytes are read
+abbrev pub IsReadInPart : Option (List ℕ) → Option (List ℕ) → (List ℕ → Bool) → List ℕ → Type 0
+IsReadInPart told left started name = (started name ≡ true) × ((read : List ℕ) × Consumes told left read)
+
+-- that is what a read leaves; or its start failed, and no file is started
+abbrev pub Leaves : Option (List ℕ) → Option (List ℕ) → (List ℕ → Bool) → List ℕ → Result (List ℕ) ReadError → Type 0
+Leaves told left started name (Ok bytes) = IsReadInPart told left started name
+Leaves told left started name (Err Failed) = IsReadInPart told left started name ⊎ ((other : List ℕ) → started other ≡ false)
+Leaves told left started name (Err TooLarge) = IsReadInPart told left started name
+Leaves told left started name (Err Memory) = IsReadInPart told left started name
 
 -- a result, with the bytes of its `Vec` as a list
 abbrev pub bytes_of : {Z E : Type 0} → Result (Vec ℕ Z) E → Result (List ℕ) E

@@ -1,7 +1,7 @@
 // A whole file within a limit.
 ghost use Rattle.std.specs.Prelude.{◌≡◌, IfOk, length};
 ghost use Rattle.rpt_outside.specs.Causes.{NeverFalls};
-ghost use Rattle.rpt_outside.specs.Whole.{Reads, bytes_of};
+ghost use Rattle.rpt_outside.specs.Whole.{Leaves, Reads, bytes_of};
 
 use crate::traits::Files;
 use std::alloc::{AllocError, Global};
@@ -30,6 +30,7 @@ pub fn read_whole<F: Files>(
     limit: u32,
 ) -> Result<Vec<u8>, ReadError>
     ensures reads { Reads (F.contents files.old name.now) limit name.now (F.faults files.old) (F.faults files.new) (bytes_of result) }
+    ensures leaves { Leaves (F.contents files.old name.now) (F.left files.new) (F.is_started files.new) name.now (bytes_of result) }
     ensures contents { F.contents files.new ≡ F.contents files.old }
     ensures later { NeverFalls (F.faults files.old) (F.faults files.new) }
 {

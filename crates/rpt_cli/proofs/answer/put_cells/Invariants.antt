@@ -4,4 +4,4 @@ use Rattle.rpt_cli.specs.Answer.{cells}
 use Rattle.rpt_cli.proofs.answer.put_cells.Given as goal
 
 abbrev pub invariant-loop-item : goal.invariant-loop-item
-invariant-loop-item l = (fields_of l.record ≡ cells (take l.item-index l.items) l.row) × (partial_of l.record ≡ [])
+invariant-loop-item l = (fields_of l.fields ≡ cells (take l.item-index l.items) l.row) × (partial_of l.fields ≡ [])

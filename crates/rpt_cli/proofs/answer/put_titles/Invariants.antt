@@ -4,4 +4,4 @@ use Rattle.rpt_cli.specs.Answer.{titles}
 use Rattle.rpt_cli.proofs.answer.put_titles.Given as goal
 
 abbrev pub invariant-loop-item : goal.invariant-loop-item
-invariant-loop-item l = (fields_of l.record ≡ titles (take l.item-index l.items)) × (partial_of l.record ≡ [])
+invariant-loop-item l = (fields_of l.fields ≡ titles (take l.item-index l.items)) × (partial_of l.fields ≡ [])
