@@ -1,7 +1,6 @@
 // A `Vec` that contracts see as a list.
-ghost use Rattle.std.specs.Prelude.{◌≡◌, []};
+ghost use Rattle.std.specs.Prelude.{◌≡◌};
 
-use std::alloc::Global;
 use std::marker::Model;
 
 /// A `Vec` that contracts see as the list of its items, so that what holds it is plain data to them.
@@ -29,15 +28,6 @@ impl<T> Listed<T> {
         ensures { result ≡ items.items }
     {
         Listed { items }
-    }
-
-    /// No items.
-    pub fn none(alloc: Global) -> Listed<T>
-        ensures { result ≡ [] }
-    {
-        Listed {
-            items: Vec::new(alloc),
-        }
     }
 
     /// The items in order.

@@ -6,7 +6,9 @@ fn texts_are_utf8(rt: HostRuntime) -> Result<(), Fail> {
     let alloc = rt.alloc();
     let text = Str::from_bytes(alloc, "ü".as_bytes())?;
     assert_eq!(rt; text.bytes(), b"\xC3\xBC".as_slice());
+    assert_eq!(rt; text.as_str(), "ü");
     assert_eq!(rt; text.copy(alloc)?, text);
+    assert_eq!(rt; Str::from_text(alloc, "ü")?, text);
     assert_eq!(rt; Str::from_bytes(alloc, b"a\xFF"), Err(StrError::NotUtf8));
     Ok(())
 }

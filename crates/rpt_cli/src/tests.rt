@@ -1,4 +1,4 @@
-use crate::run_command;
+use crate::{Refusal, put_line, read_words, run_command};
 use rpt_outside::{MemoryFiles, MemorySink, OpenGate};
 use std::alloc::{AllocError, Global};
 use std::process::Abort;
@@ -222,6 +222,23 @@ fn words_that_are_no_command_are_refused(rt: HostRuntime) -> Result<(), Fail> {
             "rpt: usage: rpt run|explain|check|sample SCRIPT DIR [--filter bloom|exact|none] [--workers N] [--morsel N] [--order A,B] [--force]\n",
         );
     }
+    Ok(())
+}
+
+#[test]
+fn the_words_of_a_command_are_read(rt: HostRuntime) -> Result<(), Fail> {
+    let words = texts(rt.alloc(), &["run", "q.sql", ""])?;
+    let command = read_words(rt.alloc(), &words)?;
+    assert_eq!(rt; command.script.as_str(), "q.sql");
+    assert_eq!(rt; command.folder.as_str(), "");
+    Ok(())
+}
+
+#[test]
+fn a_line_is_put_whole(rt: HostRuntime) -> Result<(), Fail> {
+    let mut messages = sink(rt.alloc())?;
+    assert!(rt; put_line(&Refusal::TooManyRows, &mut messages).is_ok());
+    assert_eq!(rt; messages.bytes(), b"rpt: too many rows\n".as_slice());
     Ok(())
 }
 
