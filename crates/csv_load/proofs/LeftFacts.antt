@@ -93,13 +93,13 @@ still done r e (inr a) = a
 -- the same, with the note of whether the reader is done
 pub read-noted : (a b : Reader (Bor (List ℕ))) (done found : Bool) (f : List (List ℕ)) → done ≡ false → IsReading done a
     → (reader_trim a ≡ trim.None → Ready a → ReadRecord (λ s. Some s.now) a b found f) → (reader_trim a ≡ trim.None → took_first b ≡ true) → is_flexible b ≡ is_flexible a
-    → MatchBool found (left_of done a ≡ f ∷ left_of (not found) b) (left_of done a ≡ []) × IsReading (not found) b
+    → MatchBool found (left_of done a ≡ f ∷ left_of (not found) b) ((left_of done a ≡ []) × (left_of (not found) b ≡ [])) × IsReading (not found) b
 read-noted a b done found f e r h first same = let all = still done a e r in rw e (by found (read-left a b found f all (h all.0 all.1) (first all.0) same))
   where
     by : (d : Bool) → MatchBool d ((left_of false a ≡ f ∷ left_of false b) × ReadsAll b) (left_of false a ≡ [])
-        → MatchBool d (left_of false a ≡ f ∷ left_of (not d) b) (left_of false a ≡ []) × IsReading (not d) b
+        → MatchBool d (left_of false a ≡ f ∷ left_of (not d) b) ((left_of false a ≡ []) × (left_of (not d) b ≡ [])) × IsReading (not d) b
     by true m = (m.0, inr m.1)
-    by false m = (m, inl refl)
+    by false m = ((m, refl), inl refl)
 
 -- a read of bytes, of records of any length, fails only for the reader underneath or for memory
 pub explains-stops : {R : Type 0} (rem : R → Option (List ℕ)) (a b : Reader R) (k : ErrorKind) → is_flexible a ≡ true → ExplainsRead rem a b false k → stops_reader k ≡ true

@@ -1,6 +1,7 @@
+pub mod FirstRefusals
 pub mod LeftFacts
 pub mod MachineFacts
 pub mod NumberFacts
 pub mod PlaceFacts
-pub mod RowsFacts
+pub mod RowFacts
 pub mod ValueFacts

@@ -1,12 +1,21 @@
--- What `load` answers.
-use Rattle.std.specs.Prelude.{◌≡◌, List, Result, Ok, Err}
+-- What the parts of loading answer.
+use Rattle.std.specs.Prelude.{◌≡◌, ◌++◌, ◌∷◌, [], Bool, true, false, List, Option, Some, None, Result, Ok, Err}
 use Rattle.rpt_base.specs.declared.values.Value.{Value}
-use Rattle.csv_load.specs.declared.loading.LoadError.{LoadError}
-use Rattle.csv_load.specs.declared.loading.LoadError.TheVariants.{Bad, TooManyRows, Memory}
+use Rattle.column_table.specs.Table.{Filling}
+use Rattle.csv_load.specs.declared.refusal.LoadError.{LoadError}
+use Rattle.csv_load.specs.declared.refusal.LoadError.TheVariants.{Memory}
 
--- the file's table, or the refusal that it has; or memory ran out
-abbrev pub Loads : Result (List (List Value)) LoadError → Result (List (List Value)) LoadError → Type 0
-Loads said (Ok table) = said ≡ Ok table
-Loads said (Err Bad) = said ≡ Err Bad
-Loads said (Err TooManyRows) = said ≡ Err TooManyRows
-Loads said (Err Memory) = Unit {0}
+-- a refusal is the one that is said; or memory ran out
+abbrev pub Refuses : {X Y : Type 0} → Result X LoadError → Result Y LoadError → Type 0
+Refuses said (Ok y) = Unit {0}
+Refuses said (Err Memory) = Unit {0}
+Refuses said (Err e) = said ≡ Err e
+
+-- the values are put behind those of the started row
+abbrev pub Puts : Filling → Filling → List Value → Type 0
+Puts old new values = new ≡ record old { started = old.started ++ values }
+
+-- the value of the field was put; or there is none
+abbrev pub PutsField : Option Value → Filling → Filling → Bool → Type 0
+PutsField (Some value) old new good = (good ≡ true) × Puts old new (value ∷ [])
+PutsField None old new good = good ≡ false

@@ -1,31 +1,49 @@
 // The values of fields.
-ghost use Rattle.std.specs.Prelude.{◌≡◌, IfOk, IsTrue};
+ghost use Rattle.std.specs.Prelude.{◌≡◌, ◌<◌, IfOk, IsTrue, Some, length, slice_get};
 ghost use Rattle.std.specs.Option.{SomeIff};
 ghost use Rattle.std.specs.Str.Parse.{signed_digits_value};
-ghost use Rattle.csv_load.specs.FileTable.{is_int, value_of};
+ghost use Rattle.csv_load.specs.FileTable.{fault_of, is_int, value_of};
+ghost use Rattle.csv_load.specs.Loads.{PutsField};
 
-use rpt_base::{ColumnType, Memory, Str, StrError, Value};
-use std::alloc::Global;
+use crate::refusal::LoadError;
+use column_table::TableBuilder;
+use rpt_base::{ColumnType, Memory};
 use std::str;
 
-/// The value of a field in a column of this type. None where the field is no number, or isn't UTF-8.
-pub(crate) fn value_from(
-    alloc: Global,
+/// Puts the value of a field into the next column, which has this type. False where the field has none there.
+pub(crate) fn put_field(
+    builder: &mut TableBuilder,
     kind: ColumnType,
     field: &[u8],
-) -> Result<Option<Value>, Memory>
-    ensures { IfOk result (λ value. value ≡ value_of kind field.now) }
+) -> Result<bool, Memory>
+    requires { slice_get builder.old.kinds (length builder.old.started) ≡ Some kind }
+    ensures { IfOk result (λ good. PutsField (value_of kind field.now) builder.old builder.new good) }
 {
     match kind {
         ColumnType::Int => match int_of(field) {
-            Some(number) => Ok(Some(Value::Int(number))),
-            None => Ok(None),
+            Some(number) => {
+                builder.put_int(number)?;
+                Ok(true)
+            }
+            None => Ok(false),
         },
-        ColumnType::Text => match Str::from_bytes(alloc, field) {
-            Ok(text) => Ok(Some(Value::Text(text))),
-            Err(StrError::NotUtf8) => Ok(None),
-            Err(StrError::Memory) => Err(Memory),
+        ColumnType::Text => match str::from_utf8(field) {
+            Ok(text) => {
+                builder.put_text(text)?;
+                Ok(true)
+            }
+            Err(_) => Ok(false),
         },
+    }
+}
+
+/// The refusal of a field that has no value in a column of this type.
+pub(crate) fn fault(kind: ColumnType, row: u32, column: u32) -> LoadError
+    ensures { result ≡ fault_of kind row column }
+{
+    match kind {
+        ColumnType::Int => LoadError::BadField { row, column },
+        ColumnType::Text => LoadError::NotUtf8 { row, column },
     }
 }
 

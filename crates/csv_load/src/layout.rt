@@ -1,14 +1,16 @@
 // The rows of records, once it is known where the declared columns stand in the header.
-ghost use Rattle.std.specs.Prelude.{◌≡◌, IfOk, map, option_map};
+ghost use Rattle.std.specs.Prelude.{◌≡◌, ◌==◌, ◌≤◌, [], IfOk, OnOk, length};
+ghost use Rattle.rpt_base.specs.declared.limits.TheConstants.{MAX_COLUMNS};
 ghost use Rattle.csv.specs.Records.{fields_of};
-ghost use Rattle.csv_load.specs.FileTable.{is_named, row_of};
-ghost use Rattle.csv_load.specs.Layouts.{layout_of, place_in, places_in};
+ghost use Rattle.csv_load.specs.FileTable.{cells_of, is_named, kinds_of, place_in, places_of as places_said};
+ghost use Rattle.csv_load.specs.Loads.{Refuses};
 
-use crate::declared::ColumnDecl;
-use crate::fields::value_from;
+use crate::fields::{fault, put_field};
 use crate::records::field_at;
+use crate::refusal::LoadError;
+use column_table::{ColumnDecl, TableBuilder};
 use csv::ByteRecord;
-use rpt_base::{Memory, Name, Value};
+use rpt_base::Name;
 use std::alloc::Global;
 use std::marker::Model;
 
@@ -22,84 +24,101 @@ pub(crate) struct RowLayout<'a> {
 }
 
 impl<'a> Model for RowLayout<'a> {
-    ghost use Rattle.std.specs.Prelude.{◌≡◌, Some};
+    ghost use Rattle.std.specs.Prelude.{◌≡◌, ◌≤◌, Ok, length};
+    ghost use Rattle.rpt_base.specs.declared.limits.TheConstants.{MAX_COLUMNS};
     ghost use Rattle.csv.specs.Records.{fields_of};
-    ghost use Rattle.csv_load.specs.Layouts.{FileLayout, places_in};
+    ghost use Rattle.csv_load.specs.FileTable.{places_of};
+    ghost use Rattle.csv_load.specs.Layouts.{FileLayout};
 
     ghost Value = { FileLayout };
 
-    ghost view = { λ l. record { columns = l.columns.now; header = fields_of l.header } };
+    ghost view = { λ l. record { columns = l.columns.now; header = fields_of l.header; places = l.places.items } };
 
-    ghost invariant = { λ l. places_in l.columns.now (fields_of l.header) ≡ Some l.places.items };
+    ghost invariant = { λ l. (places_of l.columns.now (fields_of l.header) ≡ Ok l.places.items) × (length l.columns.now ≤ MAX_COLUMNS) };
 }
 
 impl<'a> RowLayout<'a> {
-    /// The layout of a file with this header. None where a declared column doesn't stand exactly once in it.
+    /// The layout of a file with this header, or the refusal of the first declared column that doesn't stand exactly once
+    /// in it.
     pub(crate) fn find(
         alloc: Global,
         columns: &'a [ColumnDecl],
         header: ByteRecord,
-    ) -> Result<Option<RowLayout<'a>>, Memory>
-        ensures { IfOk result (λ layout. layout ≡ layout_of columns.now (fields_of header)) }
+    ) -> Result<RowLayout<'a>, LoadError>
+        requires { length columns.now ≤ MAX_COLUMNS }
+        ensures places { IfOk result (λ layout. places_said columns.now (fields_of header) ≡ Ok layout.places) }
+        ensures columns { IfOk result (λ layout. layout.columns ≡ columns.now) }
+        ensures header { IfOk result (λ layout. layout.header ≡ fields_of header) }
+        ensures refused { Refuses (places_said columns.now (fields_of header)) result }
     {
-        match places_of(alloc, columns, &header)? {
-            Some(places) => Ok(Some(RowLayout {
+        match places_of(alloc, columns, &header) {
+            Ok(places) => Ok(RowLayout {
                 columns,
                 header,
                 places,
-            })),
-            None => Ok(None),
+            }),
+            Err(refusal) => Err(refusal),
         }
     }
 
-    /// The values in the declared columns of a record with these fields. None where the record has another number of
-    /// fields than the header, or a field that is bad for its column.
-    pub(crate) fn row_of(
+    /// Puts the values of a record in the declared columns into the started row, which has none yet. The refusal is that of
+    /// the record of this row.
+    pub(crate) fn fill(
         &self,
-        alloc: Global,
+        row: u32,
         fields: &ByteRecord,
-    ) -> Result<Option<Vec<Value>>, Memory>
-        ensures { IfOk result (λ row. option_map (λ r. r.items) row ≡ row_of self.now.columns self.now.header (fields_of fields.now)) }
+        builder: &mut TableBuilder,
+    ) -> Result<(), LoadError>
+        requires kinds { builder.old.kinds ≡ kinds_of self.now.columns }
+        requires none_yet { builder.old.started ≡ [] }
+        ensures cells { OnOk result (cells_of self.now.columns self.now.header row (fields_of fields.now) ≡ Ok builder.new.started) }
+        ensures others { OnOk result (builder.new ≡ record builder.old { started = builder.new.started }) }
+        ensures refused { Refuses (cells_of self.now.columns self.now.header row (fields_of fields.now)) result }
     {
-        if fields.len() != self.header.len() {
-            return Ok(None);
+        if !is_as_long(fields, &self.header) {
+            return Err(LoadError::Ragged { row });
         }
-        let Ok(mut row) = Vec::with_capacity(alloc, self.columns.len()) else {
-            return Err(Memory);
-        };
-        'columns: for i in 0..self.columns.len() {
-            let field = field_at(fields, self.places[i]);
-            let Some(value) = value_from(alloc, self.columns[i].kind, field)? else {
-                return Ok(None);
-            };
-            if row.push(value).is_err() {
-                return Err(Memory);
+        'columns: for column in 0..self.columns.len() {
+            let kind = self.columns[column].kind;
+            let field = field_at(fields, self.places[column]);
+            if !put_field(builder, kind, field)? {
+                return Err(fault(kind, row, column as u32));
             }
         }
-        Ok(Some(row))
+        Ok(())
     }
 }
 
-// The place of each declared column in a header, from 0. None where a column doesn't stand exactly once in it.
+fn is_as_long(fields: &ByteRecord, header: &ByteRecord) -> bool
+    ensures { result ≡ (length (fields_of fields.now) == length (fields_of header.now)) }
+{
+    fields.len() == header.len()
+}
+
+// The place of each declared column in a header, from 0, or the refusal of the first that doesn't stand there exactly once.
 fn places_of(
     alloc: Global,
     columns: &[ColumnDecl],
     header: &ByteRecord,
-) -> Result<Option<Vec<usize>>, Memory>
-    ensures { IfOk result (λ places. option_map (λ p. p.items) places ≡ places_in columns.now (fields_of header.now)) }
+) -> Result<Vec<usize>, LoadError>
+    requires { length columns.now ≤ MAX_COLUMNS }
+    ensures places { IfOk result (λ places. places_said columns.now (fields_of header.now) ≡ Ok places.items) }
+    ensures refused { Refuses (places_said columns.now (fields_of header.now)) result }
 {
     let Ok(mut places) = Vec::with_capacity(alloc, columns.len()) else {
-        return Err(Memory);
+        return Err(LoadError::Memory);
     };
-    'columns: for i in 0..columns.len() {
-        let Some(place) = place_of(header, &columns[i].name) else {
-            return Ok(None);
+    'columns: for column in 0..columns.len() {
+        let Some(place) = place_of(header, &columns[column].name) else {
+            return Err(LoadError::Header {
+                column: column as u32,
+            });
         };
         if places.push(place).is_err() {
-            return Err(Memory);
+            return Err(LoadError::Memory);
         }
     }
-    Ok(Some(places))
+    Ok(places)
 }
 
 // The place of the one field with this name.

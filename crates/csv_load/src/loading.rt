@@ -1,41 +1,29 @@
 // A table from the bytes of its file.
-ghost use Rattle.std.specs.Prelude.{map};
-ghost use Rattle.csv_load.specs.FileTable.{file_table, row_of, rows_within};
-ghost use Rattle.csv_load.specs.Loads.{Loads};
-ghost use Rattle.rpt_base.specs.declared.limits.TheConstants.{MAX_ROWS};
+ghost use Rattle.std.specs.Prelude.{◌≡◌, ◌≤◌, [], IfOk, OnOk, length};
+ghost use Rattle.rpt_base.specs.declared.limits.TheConstants.{MAX_COLUMNS, MAX_ROWS};
+ghost use Rattle.csv_load.specs.FileTable.{file_table, kinds_of, rows_of};
+ghost use Rattle.csv_load.specs.Loads.{Refuses};
 
-use crate::declared::{ColumnDecl, Decl};
 use crate::layout::RowLayout;
 use crate::records::RecordReader;
-use crate::tables::Table;
+use crate::refusal::LoadError;
+use column_table::{ColumnDecl, Decl, Table, TableBuilder};
 use csv::ByteRecord;
-use rpt_base::Memory;
 use rpt_base::limits::MAX_ROWS;
+use rpt_base::{ColumnType, Memory};
 use std::alloc::Global;
-use thiserror::Error;
 
-/// Why a file has no table.
-#[derive(Clone, Copy, Debug, Drop, PartialEq, Eq, Error)]
-pub enum LoadError {
-    /// There is no header that has each declared column exactly once, or a record before row 8,388,608 has another number
-    /// of fields than the header, a number that isn't one, or a text that isn't UTF-8.
-    #[error("bad table")]
-    Bad,
-    /// There is a row with the number 8,388,608, and no bad record before it.
-    #[error("too many rows")]
-    TooManyRows,
-    /// Want of memory.
-    #[error("out of memory")]
-    Memory,
-}
-
-/// The table of a file for a declaration.
+/// The table of a file for a declaration of at most 64 columns.
 ///
 /// The records are those of RFC 4180 in the default dialect of the crate `csv`, the header first; a leading byte order mark
 /// is dropped. A declared column is found by its name, whatever the case of its ASCII letters; further columns are passed
-/// over. `Bad` and `TooManyRows` come exactly where the file has no table for that reason.
+/// over. Each refusal but want of memory comes exactly where the file has it: the header's first, then that of the first
+/// bad record.
 pub fn load(alloc: Global, bytes: &[u8], decl: &Decl) -> Result<Table, LoadError>
-    ensures { Loads (file_table MAX_ROWS decl.now.columns bytes.now) result }
+    requires { length decl.now.columns ≤ MAX_COLUMNS }
+    ensures rows { IfOk result (λ table. file_table MAX_ROWS decl.now.columns bytes.now ≡ Ok table.rows) }
+    ensures kinds { IfOk result (λ table. table.kinds ≡ kinds_of decl.now.columns) }
+    ensures refused { Refuses (file_table MAX_ROWS decl.now.columns bytes.now) result }
 {
     table_within(alloc, MAX_ROWS, decl.columns.as_slice(), bytes)
 }
@@ -47,52 +35,79 @@ pub(crate) fn table_within(
     columns: &[ColumnDecl],
     bytes: &[u8],
 ) -> Result<Table, LoadError>
-    ensures { Loads (file_table limit columns.now bytes.now) result }
+    requires columns { length columns.now ≤ MAX_COLUMNS }
+    requires limit { limit ≤ MAX_ROWS }
+    ensures rows { IfOk result (λ table. file_table limit columns.now bytes.now ≡ Ok table.rows) }
+    ensures kinds { IfOk result (λ table. table.kinds ≡ kinds_of columns.now) }
+    ensures refused { Refuses (file_table limit columns.now bytes.now) result }
 {
     let mut reader = RecordReader::new(alloc, bytes);
     let mut header = ByteRecord::new(alloc);
+    // A file without records is read as one with an empty header.
     match reader.next_into(&mut header) {
         Ok(true) => {}
-        Ok(false) => return Err(LoadError::Bad),
+        Ok(false) => header.clear(),
         Err(_) => return Err(LoadError::Memory),
     }
-    match RowLayout::find(alloc, columns, header) {
-        Ok(Some(layout)) => rows_under(alloc, limit, &layout, &mut reader),
-        Ok(None) => Err(LoadError::Bad),
-        Err(Memory) => Err(LoadError::Memory),
+    let layout = match RowLayout::find(alloc, columns, header) {
+        Ok(layout) => layout,
+        Err(refusal) => return Err(refusal),
+    };
+    let mut builder = empty(alloc, columns)?;
+    match fill_rows(alloc, limit, &layout, &mut reader, &mut builder) {
+        Ok(()) => Ok(builder.finish()),
+        Err(refusal) => Err(refusal),
     }
 }
 
-// The rows of the records that are left, of which there may be so many.
-fn rows_under(
+// A table with these columns and without rows.
+fn empty(alloc: Global, columns: &[ColumnDecl]) -> Result<TableBuilder, Memory>
+    requires { length columns.now ≤ MAX_COLUMNS }
+    ensures { IfOk result (λ b. b ≡ record { kinds = kinds_of columns.now; rows = []; started = [] }) }
+{
+    let kinds = kinds(alloc, columns)?;
+    TableBuilder::new(alloc, kinds.as_slice())
+}
+
+fn kinds(alloc: Global, columns: &[ColumnDecl]) -> Result<Vec<ColumnType>, Memory>
+    ensures { IfOk result (λ kinds. kinds.items ≡ kinds_of columns.now) }
+{
+    match columns.iter().map(|c| c.kind).collect(alloc) {
+        Ok(kinds) => Ok(kinds),
+        Err(_) => Err(Memory),
+    }
+}
+
+// Fills the rows of the records that are left, of which there may be so many.
+fn fill_rows(
     alloc: Global,
     limit: u32,
     layout: &RowLayout,
     reader: &mut RecordReader,
-) -> Result<Table, LoadError>
-    ensures { Loads (rows_within limit (map (row_of layout.now.columns layout.now.header) reader.old)) result }
+    builder: &mut TableBuilder,
+) -> Result<(), LoadError>
+    requires limit { limit ≤ MAX_ROWS }
+    requires empty { builder.old ≡ record { kinds = kinds_of layout.now.columns; rows = []; started = [] } }
+    ensures rows { OnOk result (rows_of limit layout.now.columns layout.now.header reader.old ≡ Ok builder.new.rows) }
+    ensures kinds { OnOk result (builder.new.kinds ≡ kinds_of layout.now.columns) }
+    ensures refused { Refuses (rows_of limit layout.now.columns layout.now.header reader.old) result }
 {
-    let mut table = Table::none(alloc);
     let mut record = ByteRecord::new(alloc);
-    'records: for _ in 0..limit {
+    'records: for row in 0..limit {
         match reader.next_into(&mut record) {
             Ok(true) => {}
-            Ok(false) => return Ok(table),
+            Ok(false) => return Ok(()),
             Err(_) => return Err(LoadError::Memory),
         }
-        let row = match layout.row_of(alloc, &record) {
-            Ok(Some(row)) => row,
-            Ok(None) => return Err(LoadError::Bad),
-            Err(Memory) => return Err(LoadError::Memory),
-        };
-        if table.push(row).is_err() {
-            return Err(LoadError::Memory);
+        match layout.fill(row, &record, builder) {
+            Ok(()) => builder.end_row(),
+            Err(refusal) => return Err(refusal),
         }
     }
     // A record past the limit is one too many whatever it holds.
     match reader.next_into(&mut record) {
         Ok(true) => Err(LoadError::TooManyRows),
-        Ok(false) => Ok(table),
+        Ok(false) => Ok(()),
         Err(_) => Err(LoadError::Memory),
     }
 }

@@ -48,7 +48,7 @@ impl<'a> RecordReader<'a> {
     ///
     /// An error is a fault of reading, which a slice doesn't have, or want of memory; no record is refused for what it holds.
     pub(crate) fn next_into(&mut self, fields: &mut ByteRecord) -> Result<bool, Error>
-        ensures reads { IfOk result (λ found. MatchBool found (self.old ≡ fields_of fields.new ∷ self.new) (self.old ≡ [])) }
+        ensures reads { IfOk result (λ found. MatchBool found (self.old ≡ fields_of fields.new ∷ self.new) ((self.old ≡ []) × (self.new ≡ []))) }
         ensures stops { IfErr result (λ e. stops_reader (error_kind e) ≡ true) }
     {
         if self.done {

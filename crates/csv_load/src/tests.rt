@@ -1,6 +1,7 @@
 use crate::loading::table_within;
-use crate::{ColumnDecl, Decl, LoadError, Table, load};
-use rpt_base::{ColumnType, Listed, Name, Value};
+use crate::{LoadError, load};
+use column_table::{ColumnDecl, Decl, Table};
+use rpt_base::{Cell, ColumnType, Listed, Name};
 use std::alloc::Global;
 use std::fmt::Write;
 use std::str;
@@ -29,16 +30,16 @@ fn text_and_number(alloc: Global) -> Result<Decl, Fail> {
     })
 }
 
-// An answer as text: a bar after each value and a semicolon after each row, or the error's name.
+// An answer as text: a bar after each value and a semicolon after each row, or the error.
 fn shown(alloc: Global, answer: Result<Table, LoadError>) -> Result<String, Fail> {
     let mut out = String::new(alloc);
     match answer {
         Ok(table) => {
-            for row in table.rows() {
-                for value in row {
-                    match value {
-                        Value::Int(number) => write!(out, "{number}|")?,
-                        Value::Text(text) => write!(out, "{}|", str::from_utf8(text.bytes())?)?,
+            for row in 0..table.rows() {
+                for column in 0..table.columns() {
+                    match table.cell(row, column) {
+                        Cell::Int(number) => write!(out, "{number}|")?,
+                        Cell::Text(text) => write!(out, "{}|", str::from_utf8(text)?)?,
                     }
                 }
                 out.push(';')?;
@@ -53,7 +54,7 @@ fn shown(alloc: Global, answer: Result<Table, LoadError>) -> Result<String, Fail
 fn tables_follow_their_files(rt: HostRuntime) -> Result<(), Fail> {
     let alloc = rt.alloc();
     let decl = text_and_number(alloc)?;
-    let cases: [(&[u8], &str); 14] = [
+    let cases: [(&[u8], &str); 20] = [
         (b"x,extra,y\n1,-,\"a,\"\"b\"\"\nc\"\n", "a,\"b\"\nc|1|;"),
         (b"\xEF\xBB\xBFx,y\n1,a\n", "a|1|;"),
         (b"x,y\r\n1,a\r\n2,b\r\n", "a|1|;b|2|;"),
@@ -61,13 +62,19 @@ fn tables_follow_their_files(rt: HostRuntime) -> Result<(), Fail> {
         (b"x,y\n", ""),
         (b"x,y\n\n1,a\n\n\n2,b", "a|1|;b|2|;"),
         (b"x,y\n1,\"a\nb", "a\nb|1|;"),
-        (b"", "Bad"),
-        (b"x,x,y\n1,1,a\n", "Bad"),
-        (b"x,z\n1,a\n", "Bad"),
-        (b"x,y\n1\n", "Bad"),
-        (b"x,y\n1,a,b\n", "Bad"),
-        (b"x,y\n1,\xFF\n", "Bad"),
         (b"x,y,z\n1,a,\xFF\n", "a|1|;"),
+        (b"", "Header { column: 0 }"),
+        (b"z\n", "Header { column: 0 }"),
+        (b"x,Y,y\n1,a,b\n", "Header { column: 0 }"),
+        (b"x,x,y\n1,1,a\n", "Header { column: 1 }"),
+        (b"y,z\n1\n", "Header { column: 1 }"),
+        (b"x,y\n1\n", "Ragged { row: 0 }"),
+        (b"x,y\n1,a\n2,b,c\nz,d\n", "Ragged { row: 1 }"),
+        (b"x,y\nz\n", "Ragged { row: 0 }"),
+        (b"x,y\n1,a\n2,\xFF\n", "NotUtf8 { row: 1, column: 0 }"),
+        (b"x,y\nz,\xFF\n", "NotUtf8 { row: 0, column: 0 }"),
+        (b"x,y\n1,a\n2,b\nz,c\n,\n", "BadField { row: 2, column: 1 }"),
+        (b"x,y\nz,a\n1\n", "BadField { row: 0, column: 1 }"),
     ];
     for (bytes, want) in cases {
         let got = shown(alloc, load(alloc, bytes, &decl))?;
@@ -80,26 +87,42 @@ fn tables_follow_their_files(rt: HostRuntime) -> Result<(), Fail> {
 fn numbers_have_a_sign_or_none_and_digits(rt: HostRuntime) -> Result<(), Fail> {
     let alloc = rt.alloc();
     let decl = text_and_number(alloc)?;
-    let cases: [(&[u8], &str); 11] = [
-        (b"x,y\n9223372036854775807,\n", "|9223372036854775807|;"),
-        (b"x,y\n-9223372036854775808,\n", "|-9223372036854775808|;"),
-        (b"x,y\n+5,\n", "|5|;"),
-        (b"x,y\n007,\n", "|7|;"),
-        (b"x,y\n9223372036854775808,\n", "Bad"),
-        (b"x,y\n-9223372036854775809,\n", "Bad"),
-        (b"x,y\n,\n", "Bad"),
-        (b"x,y\n-,\n", "Bad"),
-        (b"x,y\n1.0,\n", "Bad"),
-        (b"x,y\n 1,\n", "Bad"),
-        (b"x,y\n1\xFF,\n", "Bad"),
+    let numbers: [(&str, &str); 6] = [
+        ("9223372036854775807", "9223372036854775807"),
+        ("-9223372036854775808", "-9223372036854775808"),
+        ("+5", "5"),
+        ("-0", "0"),
+        ("007", "7"),
+        ("-007", "-7"),
     ];
-    for (bytes, want) in cases {
-        let got = shown(alloc, load(alloc, bytes, &decl))?;
-        assert_eq!(rt; got.as_str(), want);
+    for (field, number) in numbers {
+        let bytes = format!(in alloc; "x,y\n{field},\n")?;
+        let want = format!(in alloc; "|{number}|;")?;
+        let got = shown(alloc, load(alloc, bytes.as_bytes(), &decl))?;
+        assert_eq!(rt; got.as_str(), want.as_str());
+    }
+    let others = [
+        "9223372036854775808",
+        "-9223372036854775809",
+        "",
+        "-",
+        "+",
+        "+-1",
+        "1_0",
+        "1.0",
+        " 1",
+        "1 ",
+        "\u{661}",
+    ];
+    for field in others {
+        let bytes = format!(in alloc; "x,y\n{field},\n")?;
+        let got = shown(alloc, load(alloc, bytes.as_bytes(), &decl))?;
+        assert_eq!(rt; got.as_str(), "BadField { row: 0, column: 1 }");
     }
     Ok(())
 }
 
+// Past the limit a record is one too many before it is ragged or has a bad field.
 #[test]
 fn rows_are_counted_to_the_limit(rt: HostRuntime) -> Result<(), Fail> {
     let alloc = rt.alloc();
@@ -108,14 +131,12 @@ fn rows_are_counted_to_the_limit(rt: HostRuntime) -> Result<(), Fail> {
         (b"x,y\n1,a\n2,b\n", "a|1|;b|2|;"),
         (b"x,y\n1,a\n2,b\n3,c\n", "TooManyRows"),
         (b"x,y\n1,a\n2,b\nz\n", "TooManyRows"),
-        (b"x,y\n1,a\n2,b\n3,c\nz\n", "TooManyRows"),
-        (b"x,y\n1,a\nz\n3,c\n", "Bad"),
+        (b"x,y\n1,a\n2,b\nz,c\n", "TooManyRows"),
+        (b"x,y\n1,a\nz\n3,c\n", "Ragged { row: 1 }"),
     ];
     for (bytes, want) in cases {
-        let got = shown(
-            alloc,
-            table_within(alloc, 2, decl.columns.as_slice(), bytes),
-        )?;
+        let columns = decl.columns.as_slice();
+        let got = shown(alloc, table_within(alloc, 2, columns, bytes))?;
         assert_eq!(rt; got.as_str(), want);
     }
     Ok(())

@@ -1,22 +1,22 @@
 -- Which refusals a course can end with, and so what a status tells.
 use Rattle.std.proofs.Common.{◌≡◌, ◌∙◌, ◌⊎◌, inl, inr, ℕ, List, Bool, true, false, refl, sym, ap, subst, arith}
-use Rattle.std.specs.Prelude.{Option, Some, None, Result, Ok, Err, nat_lt, length, if◌then◌else◌, ⊤}
+use Rattle.std.specs.Prelude.{MatchResult, Option, Some, None, Result, Ok, Err, nat_lt, length, if◌then◌else◌, ⊤}
 use Rattle.rpt_outside.specs.Causes.{Rose}
 use Rattle.rpt_base.specs.declared.values.Value.{Value}
-use Rattle.csv_load.specs.declared.loading.LoadError.{LoadError}
-use Rattle.csv_load.specs.declared.loading.LoadError.TheVariants as load_error
+use Rattle.csv_load.specs.declared.refusal.LoadError.{LoadError}
+use Rattle.csv_load.specs.declared.refusal.LoadError.TheVariants as load_error
 use Rattle.csv_load.specs.FileTable.{file_table}
 use Rattle.rpt_base.specs.declared.limits.TheConstants.{MAX_ROWS}
-use Rattle.sql_text.specs.declared.script.SmallScript.{SmallScript}
-use Rattle.sql_text.specs.Reading.{script_of}
+use Rattle.sql_text.specs.declared.tree.Script.{Script}
 use Rattle.rpt_cli.specs.declared.refusal.Refusal.{Refusal}
-use Rattle.rpt_cli.specs.declared.refusal.Refusal.TheVariants.{Usage, ReadFault, TooLarge, NotScript, CannotBind, BadTable, TooManyRows, WriteFault, Memory}
+use Rattle.rpt_cli.specs.declared.refusal.Refusal.TheVariants.{Usage, ReadFault, TooLarge, Lex, Syntax, TooDeep, CannotBind, Header, Ragged, BadField, NotUtf8, TooManyRows, WriteFault, Memory}
 use Rattle.rpt_cli.specs.declared.binding.Query.{Query}
 use Rattle.rpt_cli.specs.declared.words.Command.{Command}
 use Rattle.rpt_cli.specs.Words.{command_of, table_file}
 use Rattle.rpt_cli.specs.Binding.{bound}
-use Rattle.rpt_cli.specs.Course.{Answer, Course, Ends, Asks, Gives, Leads, goes_on}
-use Rattle.rpt_cli.specs.Command.{answer_of, asks_within, bound_or, command_course, course, course_of, query_course, query_or, script_course, table_or, text_or}
+use Rattle.rpt_cli.specs.Scripts.{IsScript}
+use Rattle.rpt_cli.specs.Course.{Answer, Course, Ends, Asks, Reads, Gives, Leads, goes_on}
+use Rattle.rpt_cli.specs.Command.{answer_of, asks_within, command_course, course, course_of, query_course, query_or, script_course, table_or, text_or}
 use Rattle.rpt_cli.specs.Delivery.{Delivers}
 use Rattle.rpt_cli.specs.Message.{status_of}
 use Rattle.rpt_cli.specs.Outcome.{Answers}
@@ -33,34 +33,51 @@ IsOverContents (Err e) = ⊤
 abbrev EndsOverContents : Course → Type 0
 EndsOverContents (Ends answer) = IsOverContents answer
 EndsOverContents (Asks name next) = (bytes : List ℕ) → EndsOverContents (next bytes)
+EndsOverContents (Reads bytes next) = (script : Script) → EndsOverContents (next script)
 
 either : (b : Bool) (x y : Course) → EndsOverContents x → EndsOverContents y → EndsOverContents (if b then x else y)
 either true x y p q = p
 either false x y p q = q
 
-text-ends : (query : Query) (name : List ℕ) (table : Result (List (List Value)) LoadError) → IsOverContents (text_or query (table_or name table))
-text-ends query name (Ok table) = tt
-text-ends query name (Err load_error.Bad) = tt
-text-ends query name (Err load_error.TooManyRows) = tt
-text-ends query name (Err load_error.Memory) = tt
+text-ends : (query : Query) (table : Result (List (List Value)) LoadError) → IsOverContents (text_or query (table_or query.decl table))
+text-ends query (Ok rows) = tt
+text-ends query (Err (load_error.Header column)) = tt
+text-ends query (Err (load_error.Ragged row)) = tt
+text-ends query (Err (load_error.BadField row column)) = tt
+text-ends query (Err (load_error.NotUtf8 row column)) = tt
+text-ends query (Err load_error.TooManyRows) = tt
+text-ends query (Err load_error.Memory) = tt
 
 query-ends : (limit : ℕ) (folder : List ℕ) (query : Query) → EndsOverContents (query_course limit folder query)
 query-ends limit folder query bytes =
     either (nat_lt limit (length bytes)) (Ends (Err (TooLarge (table_file folder query.decl.name)))) (Ends (answer_of query bytes)) tt
-    (text-ends query query.decl.name (file_table MAX_ROWS query.decl.columns bytes))
+    (text-ends query (file_table MAX_ROWS query.decl.columns bytes))
 
-bound-ends : (query : Option Query) (next : Query → Course) → ((q : Query) → EndsOverContents (next q)) → EndsOverContents (goes_on (bound_or query) next)
-bound-ends None next p = tt
-bound-ends (Some query) next p = p query
-
-script-ends : (script : Option SmallScript) (next : Query → Course) → ((q : Query) → EndsOverContents (next q)) → EndsOverContents (goes_on (query_or script) next)
-script-ends None next p = tt
-script-ends (Some script) next p = bound-ends (bound script) next p
+read-ends : (limit : ℕ) (folder : List ℕ) (query : Option Query) → EndsOverContents (goes_on (query_or query) (query_course limit folder))
+read-ends limit folder None = tt
+read-ends limit folder (Some query) = query-ends limit folder query
 
 command-ends : (limit most : ℕ) (command : Command) → EndsOverContents (asks_within limit command.script (script_course most command.folder))
 command-ends limit most command bytes =
     either (nat_lt limit (length bytes)) (Ends (Err (TooLarge command.script))) (script_course most command.folder bytes) tt
-    (script-ends (script_of bytes) (query_course most command.folder) (query-ends most command.folder))
+    (λ script. read-ends most command.folder (bound script))
+
+-- what is refused as no script is refused for what it is
+script-refusal : (bytes : List ℕ) (e : Refusal) → IsScript bytes (Err e) → IsOverContents (Err e)
+script-refusal bytes Usage h = h
+script-refusal bytes (ReadFault name) h = h
+script-refusal bytes WriteFault h = h
+script-refusal bytes (TooLarge name) h = tt
+script-refusal bytes (Lex offset) h = tt
+script-refusal bytes (Syntax offset) h = tt
+script-refusal bytes (TooDeep offset) h = tt
+script-refusal bytes CannotBind h = tt
+script-refusal bytes (Header table column) h = tt
+script-refusal bytes (Ragged table row) h = tt
+script-refusal bytes (BadField table row column) h = tt
+script-refusal bytes (NotUtf8 table row column) h = tt
+script-refusal bytes TooManyRows h = tt
+script-refusal bytes Memory h = tt
 
 -- a course that ends so leads to no usage and no fault but of a file that it asks for, whose count rose
 Leads-tells : (told : List ℕ → Option (List ℕ)) (before now : List ℕ → ℕ) (course : Course) (answer : Answer) → EndsOverContents course
@@ -68,6 +85,15 @@ Leads-tells : (told : List ℕ → Option (List ℕ)) (before now : List ℕ →
 Leads-tells told before now (Ends end) answer p e = inl (subst IsOverContents (sym e) p)
 Leads-tells told before now (Asks name next) answer p (inl fault) = inr (name, fault.0, fault.1)
 Leads-tells told before now (Asks name next) answer p (inr read) = Leads-tells told before now (next read.0) answer (p read.0) read.2
+Leads-tells told before now (Reads bytes next) answer p l = by l.0 l.1.0 (λ script. Leads-tells told before now (next script) answer (p script)) l.2
+  where
+    Told : Type 0
+    Told = IsOverContents answer ⊎ ((name : List ℕ) × (answer ≡ Err (ReadFault name)) × Rose (before name) (now name))
+
+    by : (r : Result Script Refusal) → IsScript bytes r → ((script : Script) → Leads told before now (next script) answer → Told)
+        → MatchResult r (λ script. Leads told before now (next script) answer) (λ e. answer ≡ Err e) → Told
+    by (Ok script) said more m = more script m
+    by (Err e) said more m = inl (subst IsOverContents (sym m) (script-refusal bytes e said))
 
 -- the same of the words' course, which ends at once with a usage where the words are no command
 abbrev Tells : (List ℕ → ℕ) → (List ℕ → ℕ) → Option Command → Answer → Type 0
@@ -86,9 +112,14 @@ status-over : (e : Refusal) → IsOverContents (Err e) → (status_of e ≡ 2 �
 status-over Usage p = absurd p
 status-over (ReadFault name) p = absurd p
 status-over (TooLarge name) p = (λ h. omega arith, λ h. omega arith, λ h. omega arith)
-status-over NotScript p = (λ h. omega arith, λ h. omega arith, λ h. omega arith)
+status-over (Lex offset) p = (λ h. omega arith, λ h. omega arith, λ h. omega arith)
+status-over (Syntax offset) p = (λ h. omega arith, λ h. omega arith, λ h. omega arith)
+status-over (TooDeep offset) p = (λ h. omega arith, λ h. omega arith, λ h. omega arith)
 status-over CannotBind p = (λ h. omega arith, λ h. omega arith, λ h. omega arith)
-status-over (BadTable table) p = (λ h. omega arith, λ h. omega arith, λ h. omega arith)
+status-over (Header table column) p = (λ h. omega arith, λ h. omega arith, λ h. omega arith)
+status-over (Ragged table row) p = (λ h. omega arith, λ h. omega arith, λ h. omega arith)
+status-over (BadField table row column) p = (λ h. omega arith, λ h. omega arith, λ h. omega arith)
+status-over (NotUtf8 table row column) p = (λ h. omega arith, λ h. omega arith, λ h. omega arith)
 status-over TooManyRows p = (λ h. omega arith, λ h. omega arith, λ h. omega arith)
 status-over WriteFault p = absurd p
 status-over Memory p = (λ h. omega arith, λ h. omega arith, λ h. omega arith)

@@ -4,18 +4,14 @@ use Rattle.std.specs.List.{list_any}
 use Rattle.std.specs.Str.{bytes_eq}
 use Rattle.rpt_base.specs.Lists.{all_of}
 use Rattle.rpt_base.specs.declared.limits.TheConstants.{MAX_COLUMNS}
-use Rattle.rpt_base.specs.declared.values.ColumnType.{ColumnType}
-use Rattle.rpt_base.specs.declared.values.ColumnType.TheVariants as kind
 use Rattle.rpt_base.specs.declared.values.Value.{Value}
-use Rattle.rpt_base.specs.declared.values.Value.TheVariants as value
-use Rattle.csv_load.specs.declared.declared.ColumnDecl.{ColumnDecl}
-use Rattle.sql_text.specs.declared.script.SmallScript.{SmallScript}
+use Rattle.column_table.specs.Table.{has_type}
+use Rattle.column_table.specs.declared.declared.ColumnDecl.{ColumnDecl}
+use Rattle.sql_text.specs.declared.tree.Script.{Script}
+use Rattle.rpt_cli.specs.Small.{small_of}
+use Rattle.rpt_cli.specs.declared.small.SmallScript.{SmallScript}
 use Rattle.rpt_cli.specs.declared.binding.Output.{Output}
 use Rattle.rpt_cli.specs.declared.binding.Query.{Query}
-
--- the declared columns
-abbrev pub declared : List (List ℕ × ColumnType) → List ColumnDecl
-declared columns = map (λ (c : List ℕ × ColumnType). record { name = c.0; kind = c.1 }) columns
 
 -- a column has this name
 abbrev pub has_name : List ColumnDecl → List ℕ → Bool
@@ -34,13 +30,6 @@ place_of columns name = position (λ (c : ColumnDecl). bytes_eq c.name name) col
 abbrev pub output_of : List ColumnDecl → List ℕ → Option Output
 output_of columns name = option_map (λ place. record { place = place; title = name }) (place_of columns name)
 
--- the value is of this type
-abbrev pub has_type : ColumnType → Value → Bool
-has_type kind.Int (value.Int z) = true
-has_type kind.Int (value.Text text) = false
-has_type kind.Text (value.Int z) = false
-has_type kind.Text (value.Text text) = true
-
 -- the column at a place has the value's type
 abbrev pub fits : List ColumnDecl → ℕ → Value → Bool
 fits columns place v = at (slice_get columns place)
@@ -58,18 +47,22 @@ comparison_of columns (Some equal) =
 -- the two table names are one, and at most 64 columns are declared, each once
 abbrev pub is_declared : SmallScript → Bool
 is_declared script =
-    bytes_eq script.from script.table && (nat_le (length script.columns) MAX_COLUMNS && all_different (declared script.columns))
+    bytes_eq script.from script.table && (nat_le (length script.columns) MAX_COLUMNS && all_different script.columns)
 
 -- the bound query; none where an item or the comparison doesn't bind
 abbrev pub query_with : SmallScript → Option (List Output) → Option (Option (ℕ × Value)) → Option Query
 query_with script None equal = None
 query_with script (Some items) None = None
 query_with script (Some items) (Some equal) =
-    Some (record { decl = record { name = script.table; columns = declared script.columns }; items = items; equal = equal })
+    Some (record { decl = record { name = script.table; columns = script.columns }; items = items; equal = equal })
 
--- the script's bound query, if it binds
-abbrev pub bound : SmallScript → Option Query
-bound script =
+-- the bound query of a small script, if it binds
+abbrev pub bound_small : SmallScript → Option Query
+bound_small script =
     if is_declared script
-    then query_with script (all_of (map (output_of (declared script.columns)) script.items)) (comparison_of (declared script.columns) script.equal)
+    then query_with script (all_of (map (output_of script.columns) script.items)) (comparison_of script.columns script.equal)
     else None
+
+-- the script's bound query, if it is a small one and binds
+abbrev pub bound : Script → Option Query
+bound script = option_and_then bound_small (small_of script)

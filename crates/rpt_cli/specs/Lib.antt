@@ -1,5 +1,7 @@
 pub mod Words
+pub mod Scripts
 pub mod Course
+pub mod Small
 pub mod Binding
 pub mod Answer
 pub mod Writing

@@ -1,5 +1,9 @@
 -- What the parts of the top call give.
 use Rattle.std.specs.Prelude.{◌≡◌, ◌⊎◌, ℕ, ◌<◌, ◌≤◌, List, length, Result, Ok, Err, Option, Some, None}
+use Rattle.rpt_base.specs.declared.values.Value.{Value}
+use Rattle.column_table.specs.Table.{Rows}
+use Rattle.sql_text.specs.declared.tree.Script.{Script}
+use Rattle.rpt_cli.specs.Scripts.{IsScript}
 use Rattle.rpt_outside.specs.Causes.{Rose, Tells}
 use Rattle.rpt_cli.specs.declared.refusal.Refusal.{Refusal}
 use Rattle.rpt_cli.specs.declared.refusal.Refusal.TheVariants.{ReadFault, TooLarge, Memory}
@@ -29,3 +33,13 @@ Fetches told before now limit name (Err refusal) = Misses told before now limit 
 abbrev pub Makes : {X : Type 0} → Result X Refusal → Result X Refusal → Type 0
 Makes said (Ok x) = said ≡ Ok x
 Makes said (Err e) = (e ≡ Memory) ⊎ (said ≡ Err e)
+
+-- the bytes are the script that is answered, or refused as is answered; or memory ran out
+abbrev pub SaysScript : List ℕ → Result Script Refusal → Type 0
+SaysScript bytes (Ok script) = IsScript bytes (Ok script)
+SaysScript bytes (Err e) = (e ≡ Memory) ⊎ IsScript bytes (Err e)
+
+-- the rows that are answered
+abbrev pub rows_said : Result Rows Refusal → Result (List (List Value)) Refusal
+rows_said (Ok table) = Ok table.rows
+rows_said (Err e) = Err e

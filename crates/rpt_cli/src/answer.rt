@@ -1,29 +1,30 @@
 // The text of a query over its table.
-ghost use Rattle.std.specs.Prelude.{◌≡◌, ◌++◌, ◌∷◌, [], List, ℕ, IfOk, OnOk, map, slice_get};
-ghost use Rattle.std.specs.Option.{option_copied};
+ghost use Rattle.std.specs.Prelude.{◌≡◌, ◌++◌, ◌∷◌, [], List, ℕ, IfOk, OnOk, slice_get};
+ghost use Rattle.std.specs.Option.{option_map};
+ghost use Rattle.column_table.specs.Table.{value_of};
 ghost use Rattle.csv.specs.Records.{fields_of, partial_of};
 ghost use Rattle.csv.specs.Writing.{default_writer, row_text};
-ghost use Rattle.rpt_cli.specs.Answer.{cells, output_text, passes, rows_text, same_value, text_of, titles};
+ghost use Rattle.rpt_cli.specs.Answer.{cells, output_text, passes, row_at, rows_text, same_value, text_of, titles};
 ghost use Rattle.rpt_cli.specs.Writing.{HasWritten};
 
 use crate::binding::{Output, Query};
+use column_table::Table;
 use csv::{ByteRecord, Writer, WriterBuilder};
-use csv_load::Table;
 use itoa::Buffer;
-use rpt_base::{Memory, Value};
+use rpt_base::{Cell, Memory, Value};
 use std::alloc::Global;
 
 /// The record of the titles, and then one record for each row that has the value that is asked for, as the default writer of
 /// the crate `csv` writes them (RFC 4180).
 pub(crate) fn text(alloc: Global, query: &Query, table: &Table) -> Result<Vec<u8>, Memory>
-    ensures { IfOk result (λ text. text.items ≡ output_text query.now table.now) }
+    ensures { IfOk result (λ text. text.items ≡ output_text query.now table.now.rows) }
 {
     let mut writer = WriterBuilder::new().from_writer(Vec::new(alloc));
     let mut fields = ByteRecord::new(alloc);
     let items = query.items.as_slice();
     put_titles(&mut fields, items)?;
     write(&mut writer, &fields)?;
-    write_rows(&mut writer, &mut fields, query, table.rows())?;
+    write_rows(&mut writer, &mut fields, query, table)?;
     match writer.into_inner() {
         Ok(text) => Ok(text),
         Err(_) => Err(Memory),
@@ -35,12 +36,12 @@ fn write_rows(
     writer: &mut Writer<Vec<u8>>,
     fields: &mut ByteRecord,
     query: &Query,
-    rows: &[Vec<Value>],
+    table: &Table,
 ) -> Result<(), Memory>
-    ensures { (text : List ℕ) → HasWritten writer.old text → OnOk result (HasWritten writer.new (text ++ rows_text query.now (map (λ r. r.items) rows.now))) }
+    ensures { (text : List ℕ) → HasWritten writer.old text → OnOk result (HasWritten writer.new (text ++ rows_text query.now table.now.rows)) }
 {
-    for row in rows {
-        write_if_passes(writer, fields, query, row.as_slice())?;
+    'rows: for row in 0..table.rows() {
+        write_if_passes(writer, fields, query, table, row)?;
     }
     Ok(())
 }
@@ -50,14 +51,15 @@ fn write_if_passes(
     writer: &mut Writer<Vec<u8>>,
     fields: &mut ByteRecord,
     query: &Query,
-    row: &[Value],
+    table: &Table,
+    row: u32,
 ) -> Result<(), Memory>
-    ensures { (text : List ℕ) → HasWritten writer.old text → OnOk result (HasWritten writer.new (text ++ rows_text query.now (row.now ∷ []))) }
+    ensures { (text : List ℕ) → HasWritten writer.old text → OnOk result (HasWritten writer.new (text ++ rows_text query.now (row_at table.now row ∷ []))) }
 {
-    if !has_value(&query.equal, row) {
+    if !has_value(&query.equal, table, row) {
         return Ok(());
     }
-    put_cells(fields, query.items.as_slice(), row)?;
+    put_cells(fields, query.items.as_slice(), table, row)?;
     write(writer, fields)
 }
 
@@ -71,11 +73,11 @@ fn write(writer: &mut Writer<Vec<u8>>, fields: &ByteRecord) -> Result<(), Memory
     }
 }
 
-fn has_value(equal: &Option<(usize, Value)>, row: &[Value]) -> bool
-    ensures { result ≡ passes equal.now row.now }
+fn has_value(equal: &Option<(usize, Value)>, table: &Table, row: u32) -> bool
+    ensures { result ≡ passes equal.now (row_at table.now row) }
 {
     match equal {
-        Some((place, value)) => match cell_at(row, *place) {
+        Some((place, value)) => match cell_at(table, row, *place) {
             Some(cell) => is_same(cell, value),
             None => false,
         },
@@ -83,10 +85,15 @@ fn has_value(equal: &Option<(usize, Value)>, row: &[Value]) -> bool
     }
 }
 
-fn is_same(cell: &Value, value: &Value) -> bool
-    ensures { result ≡ same_value cell.now value.now }
+fn is_same(cell: Cell, value: &Value) -> bool
+    ensures { result ≡ same_value (value_of cell.entry) value.now }
 {
-    cell == value
+    match (cell, value) {
+        (Cell::Int(a), Value::Int(b)) => a == *b,
+        (Cell::Int(_), Value::Text(_)) => false,
+        (Cell::Text(_), Value::Int(_)) => false,
+        (Cell::Text(a), Value::Text(b)) => a == b.bytes(),
+    }
 }
 
 fn put_titles(fields: &mut ByteRecord, items: &[Output]) -> Result<(), Memory>
@@ -101,25 +108,30 @@ fn put_titles(fields: &mut ByteRecord, items: &[Output]) -> Result<(), Memory>
     Ok(())
 }
 
-// The number's text is written to a buffer on the stack.
-fn put_cells(fields: &mut ByteRecord, items: &[Output], row: &[Value]) -> Result<(), Memory>
-    ensures { OnOk result (fields_of fields.new ≡ cells items.now row.now) }
+fn put_cells(
+    fields: &mut ByteRecord,
+    items: &[Output],
+    table: &Table,
+    row: u32,
+) -> Result<(), Memory>
+    ensures { OnOk result (fields_of fields.new ≡ cells items.now (row_at table.now row)) }
 {
     fields.clear();
     for item in items {
-        put_cell(fields, row, item.place)?;
+        put_cell(fields, table, row, item.place)?;
     }
     Ok(())
 }
 
-fn put_cell(fields: &mut ByteRecord, row: &[Value], place: usize) -> Result<(), Memory>
-    ensures field { OnOk result (partial_of fields.old ≡ [] → fields_of fields.new ≡ fields_of fields.old ++ text_of (slice_get row.now place) ∷ []) }
+// The number's text is written to a buffer on the stack.
+fn put_cell(fields: &mut ByteRecord, table: &Table, row: u32, place: usize) -> Result<(), Memory>
+    ensures field { OnOk result (partial_of fields.old ≡ [] → fields_of fields.new ≡ fields_of fields.old ++ text_of (slice_get (row_at table.now row) place) ∷ []) }
     ensures between { OnOk result (partial_of fields.new ≡ []) }
 {
     let mut buffer = Buffer::new();
-    let field = match cell_at(row, place) {
-        Some(Value::Int(number)) => buffer.format(*number).as_bytes(),
-        Some(Value::Text(text)) => text.bytes(),
+    let field = match cell_at(table, row, place) {
+        Some(Cell::Int(number)) => buffer.format(number).as_bytes(),
+        Some(Cell::Text(text)) => text,
         None => b"",
     };
     match fields.push_field(field) {
@@ -128,8 +140,15 @@ fn put_cell(fields: &mut ByteRecord, row: &[Value], place: usize) -> Result<(), 
     }
 }
 
-fn cell_at(row: &[Value], place: usize) -> Option<&Value>
-    ensures { option_copied result ≡ slice_get row.now place }
+#[tactic(auto, using(crate::proofs::AnswerFacts::no_cells))]
+fn cell_at(table: &Table, row: u32, place: usize) -> Option<Cell<'_>>
+    ensures { option_map (λ cell. value_of cell) result ≡ slice_get (row_at table.now row) place }
 {
-    row.get(place)
+    if row >= table.rows() {
+        return None;
+    }
+    if place >= table.columns() as usize {
+        return None;
+    }
+    Some(table.cell(row, place as u32))
 }

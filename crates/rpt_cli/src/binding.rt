@@ -1,12 +1,14 @@
 // What a script is bound to.
-ghost use Rattle.std.specs.Prelude.{◌≡◌, IfOk, map, option_map};
+ghost use Rattle.std.specs.Prelude.{◌≡◌, ◌≤◌, IfOk, IfSome, length, map};
+ghost use Rattle.rpt_base.specs.declared.limits.TheConstants.{MAX_COLUMNS as MOST};
 ghost use Rattle.rpt_base.specs.Lists.{all_of};
-ghost use Rattle.rpt_cli.specs.Binding.{all_different, bound, comparison_of, declared, fits, has_name, output_of, place_of};
+ghost use Rattle.rpt_cli.specs.Binding.{all_different, bound, bound_small, comparison_of, fits, has_name, output_of, place_of};
 
-use csv_load::{ColumnDecl, Decl};
+use crate::small::{SmallScript, small_of};
+use column_table::{ColumnDecl, Decl};
 use rpt_base::limits::MAX_COLUMNS;
 use rpt_base::{ColumnType, Listed, Memory, Name, Value};
-use sql_text::SmallScript;
+use sql_text::Script;
 use std::alloc::Global;
 
 /// A selected column: its place in the table, numbered from 0, and its title.
@@ -25,10 +27,21 @@ pub(crate) struct Query {
     pub equal: Option<(usize, Value)>,
 }
 
-/// The bound query of a script. There is none where the two table names differ, a column is declared twice or is the 65th,
-/// a column isn't declared, or the value isn't of its column's type.
-pub(crate) fn bind(alloc: Global, script: SmallScript) -> Result<Option<Query>, Memory>
-    ensures { IfOk result (λ found. found ≡ bound script) }
+/// The bound query of a script. There is none where the script isn't a small one, the two table names differ, a column is
+/// declared twice or is the 65th, a column isn't declared, or the value isn't of its column's type.
+pub(crate) fn bind(alloc: Global, script: &Script) -> Result<Option<Query>, Memory>
+    ensures query { IfOk result (λ found. found ≡ bound script.now) }
+    ensures few { IfOk result (λ found. IfSome found (λ query. length query.decl.columns ≤ MOST)) }
+{
+    match small_of(alloc, script)? {
+        Some(small) => bind_small(alloc, small),
+        None => Ok(None),
+    }
+}
+
+fn bind_small(alloc: Global, script: SmallScript) -> Result<Option<Query>, Memory>
+    ensures query { IfOk result (λ found. found ≡ bound_small script) }
+    ensures few { IfOk result (λ found. IfSome found (λ query. length query.decl.columns ≤ MOST)) }
 {
     let SmallScript {
         table,
@@ -40,38 +53,23 @@ pub(crate) fn bind(alloc: Global, script: SmallScript) -> Result<Option<Query>, 
     if from.bytes() != table.bytes() {
         return Ok(None);
     }
-    let columns = declare(alloc, columns)?;
-    if columns.len() > MAX_COLUMNS as usize || !are_different(&columns) {
+    if columns.as_slice().len() > MAX_COLUMNS as usize || !are_different(columns.as_slice()) {
         return Ok(None);
     }
-    let Some(items) = find_items(alloc, &columns, items.as_slice())? else {
+    let Some(items) = find_items(alloc, columns.as_slice(), items.as_slice())? else {
         return Ok(None);
     };
-    let Some(equal) = find_comparison(&columns, equal) else {
+    let Some(equal) = find_comparison(columns.as_slice(), equal) else {
         return Ok(None);
     };
     Ok(Some(Query {
         decl: Decl {
             name: table,
-            columns: Listed::from_vec(columns),
+            columns,
         },
         items,
         equal,
     }))
-}
-
-fn declare(alloc: Global, columns: Listed<(Name, ColumnType)>) -> Result<Vec<ColumnDecl>, Memory>
-    ensures { IfOk result (λ all. all.items ≡ declared columns) }
-{
-    match columns
-        .into_vec()
-        .into_iter()
-        .map(|(name, kind)| ColumnDecl { name, kind })
-        .collect(alloc)
-    {
-        Ok(all) => Ok(all),
-        Err(_) => Err(Memory),
-    }
 }
 
 fn are_different(columns: &[ColumnDecl]) -> bool

@@ -42,9 +42,12 @@ fn status(refusal: &Refusal) -> u8
         Refusal::Usage => 2,
         Refusal::ReadFault { .. } => 3,
         Refusal::WriteFault => 4,
-        Refusal::NotScript => 5,
+        Refusal::Lex { .. } | Refusal::Syntax { .. } | Refusal::TooDeep { .. } => 5,
         Refusal::CannotBind => 6,
-        Refusal::BadTable { .. } => 7,
+        Refusal::Header { .. }
+        | Refusal::Ragged { .. }
+        | Refusal::BadField { .. }
+        | Refusal::NotUtf8 { .. } => 7,
         Refusal::TooLarge { .. } | Refusal::TooManyRows => 10,
     }
 }

@@ -12,6 +12,8 @@ mod fetch;
 mod follow;
 mod message;
 mod refusal;
+mod script;
+mod small;
 mod top;
 mod words;
 

@@ -1,45 +1,153 @@
 // The lines of refusals, and texts, put piece by piece.
-ghost use Rattle.std.specs.Prelude.{◌≡◌, ◌<◌, ◌++◌};
+ghost use Rattle.std.specs.Prelude.{◌≡◌, ◌<◌, ◌++◌, codes};
+ghost use Rattle.std.specs.Fmt.{decimal};
 ghost use Rattle.rpt_outside.specs.Causes.{Puts};
-ghost use Rattle.rpt_cli.specs.Message.{line_of};
+ghost use Rattle.rpt_cli.specs.Message.{line_end, line_of, part_text, parts_text};
+ghost use Rattle.rpt_cli.specs.declared.refusal.Refusal.TheVariants.{Header, Ragged};
 
 use crate::refusal::Refusal;
+use Part::{Number, Text};
+use itoa::Buffer;
+use rpt_base::Str;
 use rpt_outside::{Failed, Sink};
+
+// A part of a line.
+#[derive(Clone, Copy)]
+pub(crate) enum Part<'a> {
+    Text(&'a [u8]),
+    Number(u32),
+}
+
+const RPT: &[u8] = b"rpt: ";
+
+const END: Part<'static> = Text(b"\n");
+
+const NONE: Part<'static> = Text(b"");
+
+const USAGE: &[u8] =
+    b"rpt: usage: rpt run|explain|check|sample SCRIPT DIR [--filter bloom|exact|none] [--workers N] [--morsel N] [--order A,B] [--force]";
 
 /// Puts the line of a refusal. `Failed` comes only where the sink's count of faults rose, and then a prefix of the line was
 /// taken. It takes no memory.
 pub fn put_line<M: Sink>(refusal: &Refusal, sink: &mut M) -> Result<(), Failed>
     ensures { Puts (M.taken sink.old) (M.taken sink.new) (M.faults sink.old) (M.faults sink.new) (line_of refusal.now) result }
 {
-    let (head, name, tail) = parts(refusal);
-    if let Err(failed) = sink.put(head) {
-        return Err(failed);
-    }
-    if let Err(failed) = sink.put(name) {
-        return Err(failed);
-    }
-    sink.put(tail)
+    put_parts(&parts(refusal), sink)
 }
 
-// A line in three parts, the middle one being a name.
-fn parts(refusal: &Refusal) -> (&[u8], &[u8], &[u8])
-    ensures { line_of refusal.now ≡ result.0.now ++ result.1.now ++ result.2.now }
+// The parts of a line in order. Those past its end are empty.
+fn parts(refusal: &Refusal) -> [Part<'_>; 7]
+    ensures { parts_text result ≡ line_of refusal.now }
 {
     match refusal {
-        Refusal::Usage => (
-            b"rpt: usage: rpt run|explain|check|sample SCRIPT DIR [--filter bloom|exact|none] [--workers N] [--morsel N] [--order A,B] [--force]",
-            b"",
-            b"\n",
+        Refusal::Usage => plain(USAGE),
+        Refusal::ReadFault { name } => named(b"rpt: cannot read ", name),
+        Refusal::TooLarge { name } => named(b"rpt: too large: ", name),
+        Refusal::Lex { offset } => placed(b"rpt: bad token at ", *offset),
+        Refusal::Syntax { offset } => placed(b"rpt: syntax error at ", *offset),
+        Refusal::TooDeep { offset } => placed(b"rpt: nested too deep at ", *offset),
+        Refusal::CannotBind => plain(b"rpt: cannot bind"),
+        Refusal::Header { table, column } => headed(table, column),
+        Refusal::Ragged { table, row } => ragged(table, *row),
+        Refusal::BadField { table, row, column } => field(
+            table,
+            b": bad field at row ",
+            *row,
+            column,
         ),
-        Refusal::ReadFault { name } => (b"rpt: cannot read ", name.bytes(), b"\n"),
-        Refusal::TooLarge { name } => (b"rpt: too large: ", name.bytes(), b"\n"),
-        Refusal::NotScript => (b"rpt: not a script", b"", b"\n"),
-        Refusal::CannotBind => (b"rpt: cannot bind", b"", b"\n"),
-        Refusal::BadTable { table } => (b"rpt: ", table.bytes(), b": bad table\n"),
-        Refusal::TooManyRows => (b"rpt: too many rows", b"", b"\n"),
-        Refusal::WriteFault => (b"rpt: cannot write", b"", b"\n"),
-        Refusal::Memory => (b"rpt: out of memory", b"", b"\n"),
+        Refusal::NotUtf8 { table, row, column } => field(
+            table,
+            b": not UTF-8 at row ",
+            *row,
+            column,
+        ),
+        Refusal::TooManyRows => plain(b"rpt: too many rows"),
+        Refusal::WriteFault => plain(b"rpt: cannot write"),
+        Refusal::Memory => plain(b"rpt: out of memory"),
     }
+}
+
+fn plain(text: &[u8]) -> [Part<'_>; 7]
+    ensures { parts_text result ≡ text.now ++ line_end }
+{
+    [Text(text), END, NONE, NONE, NONE, NONE, NONE]
+}
+
+fn named<'a>(head: &'a [u8], name: &'a Str) -> [Part<'a>; 7]
+    ensures { parts_text result ≡ head.now ++ (name.now ++ line_end) }
+{
+    [Text(head), Text(name.bytes()), END, NONE, NONE, NONE, NONE]
+}
+
+fn placed(head: &[u8], offset: u32) -> [Part<'_>; 7]
+    ensures { parts_text result ≡ head.now ++ (decimal offset ++ line_end) }
+{
+    [Text(head), Number(offset), END, NONE, NONE, NONE, NONE]
+}
+
+fn headed<'a>(table: &'a Str, column: &'a Str) -> [Part<'a>; 7]
+    ensures { parts_text result ≡ line_of (Header table.now column.now) }
+{
+    [
+        Text(RPT),
+        Text(table.bytes()),
+        Text(b": header column "),
+        Text(column.bytes()),
+        END,
+        NONE,
+        NONE,
+    ]
+}
+
+fn ragged(table: &Str, row: u32) -> [Part<'_>; 7]
+    ensures { parts_text result ≡ line_of (Ragged table.now row) }
+{
+    [
+        Text(RPT),
+        Text(table.bytes()),
+        Text(b": ragged row "),
+        Number(row),
+        END,
+        NONE,
+        NONE,
+    ]
+}
+
+fn field<'a>(table: &'a Str, what: &'a [u8], row: u32, column: &'a Str) -> [Part<'a>; 7]
+    ensures { parts_text result ≡ codes "rpt: " ++ (table.now ++ (what.now ++ (decimal row ++ (codes " column " ++ (column.now ++ line_end))))) }
+{
+    [
+        Text(RPT),
+        Text(table.bytes()),
+        Text(what),
+        Number(row),
+        Text(b" column "),
+        Text(column.bytes()),
+        END,
+    ]
+}
+
+fn put_parts<M: Sink>(parts: &[Part], sink: &mut M) -> Result<(), Failed>
+    ensures { Puts (M.taken sink.old) (M.taken sink.new) (M.faults sink.old) (M.faults sink.new) (parts_text parts.now) result }
+{
+    for part in parts {
+        if let Err(failed) = put_part(part, sink) {
+            return Err(failed);
+        }
+    }
+    Ok(())
+}
+
+// A number's text is written to a buffer on the stack.
+fn put_part<M: Sink>(part: &Part, sink: &mut M) -> Result<(), Failed>
+    ensures { Puts (M.taken sink.old) (M.taken sink.new) (M.faults sink.old) (M.faults sink.new) (part_text part.now) result }
+{
+    let mut buffer = Buffer::new();
+    let text = match part {
+        Part::Text(text) => text,
+        Part::Number(number) => buffer.format(*number).as_bytes(),
+    };
+    sink.put(text)
 }
 
 const PIECE: usize = 65_536;

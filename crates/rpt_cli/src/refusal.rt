@@ -1,7 +1,8 @@
 // Why there is no text.
 use rpt_base::Str;
 
-/// Why a command has no answer. Each has a status and a line of its own.
+/// Why a command has no answer. Each has a status and a line of its own. Offsets are in bytes and rows are counted, both from
+/// 0; row 0 is the first record after the header.
 #[derive(Debug, Drop)]
 pub enum Refusal {
     /// The words are no command.
@@ -10,12 +11,22 @@ pub enum Refusal {
     ReadFault { name: Str },
     /// The contents of the file of this name pass their limit.
     TooLarge { name: Str },
-    /// The script's bytes are no script.
-    NotScript,
+    /// At this offset of the script stands nothing that a script is made of.
+    Lex { offset: u32 },
+    /// The tokens before this offset begin a script, and with the token there they begin none.
+    Syntax { offset: u32 },
+    /// The token at this offset opens a 65th level inside of 64 open ones.
+    TooDeep { offset: u32 },
     /// The script's names or types don't fit together.
     CannotBind,
-    /// The file of this table has no table for its declaration.
-    BadTable { table: Str },
+    /// This column doesn't stand exactly once in the header of this table's file.
+    Header { table: Str, column: Str },
+    /// The record of this row has another number of fields than the header.
+    Ragged { table: Str, row: u32 },
+    /// The field in this row and column of numbers isn't one.
+    BadField { table: Str, row: u32, column: Str },
+    /// The field in this row and column of texts isn't UTF-8.
+    NotUtf8 { table: Str, row: u32, column: Str },
     /// A table has a row with the number 8,388,608.
     TooManyRows,
     /// A put to the output failed.

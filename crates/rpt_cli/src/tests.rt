@@ -96,8 +96,13 @@ fn refuses(rt: &impl Abort, ran: &Ran, status: u8, line: &str) {
 
 #[test]
 fn one_table_from_bytes_to_bytes(rt: HostRuntime) -> Result<(), Fail> {
-    let cases: [(&str, &[u8], &[u8]); 6] = [
+    let cases: [(&str, &[u8], &[u8]); 7] = [
         (SCRIPT, TABLE, b"y\nb\n"),
+        (
+            "-- one table\nCREATE TABLE t (x INT, y TEXT); SELECT y FROM t WHERE x = 2; -- and one row",
+            TABLE,
+            b"y\nb\n",
+        ),
         (
             "create table t (x int) ; select x from T",
             b"x\n-9223372036854775808\n9223372036854775807\n",
@@ -136,20 +141,42 @@ fn one_table_from_bytes_to_bytes(rt: HostRuntime) -> Result<(), Fail> {
 
 #[test]
 fn bad_tables_are_refused(rt: HostRuntime) -> Result<(), Fail> {
-    let tables: [&[u8]; 5] = [
-        b"",
-        b"x,x,y\n",
-        b"x,y\n1\n",
-        b"x,y\n1,a\n2,\xFF\n",
-        b"x,y\n0,a\n9223372036854775808,b\n",
+    let cases: [(&[u8], &str); 7] = [
+        (b"", "rpt: t: header column x\n"),
+        (b"x,x,y\n", "rpt: t: header column x\n"),
+        (b"x,z\n1,a\n", "rpt: t: header column y\n"),
+        (b"x,y\n1\n", "rpt: t: ragged row 0\n"),
+        (
+            b"x,y\n1,a\n2,\xFF\n",
+            "rpt: t: not UTF-8 at row 1 column y\n",
+        ),
+        (
+            b"x,y\n0,a\n9223372036854775808,b\n",
+            "rpt: t: bad field at row 1 column x\n",
+        ),
+        (b"x,y\n1,a\n2,b\n3,c,d\n,\n", "rpt: t: ragged row 2\n"),
     ];
-    for table in tables {
-        refuses(
-            &rt,
-            &run(&rt, rt.alloc(), SCRIPT.as_bytes(), table, &[])?,
-            7,
-            "rpt: t: bad table\n",
-        );
+    for (table, line) in cases {
+        let ran = run(&rt, rt.alloc(), SCRIPT.as_bytes(), table, &[])?;
+        refuses(&rt, &ran, 7, line);
+    }
+    Ok(())
+}
+
+#[test]
+fn bad_tokens_are_refused_at_their_place(rt: HostRuntime) -> Result<(), Fail> {
+    let cases: [(&[u8], &str); 4] = [
+        (
+            b"CREATE TABLE t (x INT); SELECT x FROM t WHERE x = 'a",
+            "rpt: bad token at 50\n",
+        ),
+        (b"\xEF\xBB\xBF?", "rpt: bad token at 3\n"),
+        (b"SELECT 1x", "rpt: bad token at 7\n"),
+        (b"-- all\n\"\"", "rpt: bad token at 7\n"),
+    ];
+    for (script, line) in cases {
+        let ran = run(&rt, rt.alloc(), script, TABLE, &[])?;
+        refuses(&rt, &ran, 5, line);
     }
     Ok(())
 }
@@ -157,6 +184,9 @@ fn bad_tables_are_refused(rt: HostRuntime) -> Result<(), Fail> {
 #[test]
 fn scripts_that_do_not_bind_are_refused(rt: HostRuntime) -> Result<(), Fail> {
     let scripts = [
+        "CREATE TABLE t (x INT); SELECT * FROM t",
+        "CREATE TABLE t (x INT); SELECT t.x FROM t, t u",
+        "SELECT x FROM t",
         "CREATE TABLE t (x INT); SELECT x FROM s",
         "CREATE TABLE t (x INT, X TEXT); SELECT x FROM t",
         "CREATE TABLE t (x INT); SELECT y FROM t",
@@ -243,19 +273,55 @@ fn a_line_is_put_whole(rt: HostRuntime) -> Result<(), Fail> {
 }
 
 #[test]
-fn scripts_of_another_form_are_refused(rt: HostRuntime) -> Result<(), Fail> {
-    for script in [
-        "",
-        "CREATE TABLE t (x INT); SELECT * FROM t",
-        "SELECT x FROM t",
-    ] {
-        refuses(
-            &rt,
-            &run(&rt, rt.alloc(), script.as_bytes(), TABLE, &[])?,
-            5,
-            "rpt: not a script\n",
-        );
+fn scripts_are_refused_at_their_place(rt: HostRuntime) -> Result<(), Fail> {
+    let cases: [(&str, &str); 6] = [
+        ("", "rpt: syntax error at 0\n"),
+        ("SELECT x FROM", "rpt: syntax error at 13\n"),
+        (
+            "CREATE TABLE t (x INT); SELECT x x x FROM t",
+            "rpt: syntax error at 35\n",
+        ),
+        (
+            "CREATE TABLE t (x INT); SELECT x FROM t WHERE",
+            "rpt: syntax error at 45\n",
+        ),
+        (
+            "CREATE TABLE t (x INT); SELECT x FROM t; SELECT x FROM t",
+            "rpt: syntax error at 41\n",
+        ),
+        (
+            "CREATE TABLE order (x INT); SELECT x FROM order",
+            "rpt: syntax error at 13\n",
+        ),
+    ];
+    for (script, line) in cases {
+        let ran = run(&rt, rt.alloc(), script.as_bytes(), TABLE, &[])?;
+        refuses(&rt, &ran, 5, line);
     }
+    Ok(())
+}
+
+// A condition inside of so many parentheses.
+fn nested(alloc: Global, levels: usize) -> Result<String, AllocError> {
+    let mut script = String::from_str(alloc, "CREATE TABLE t (x INT); SELECT x FROM t WHERE ")?;
+    for _ in 0..levels {
+        script.push('(')?;
+    }
+    script.push_str("x = 1")?;
+    for _ in 0..levels {
+        script.push(')')?;
+    }
+    Ok(script)
+}
+
+#[test]
+fn at_most_64_levels_are_open(rt: HostRuntime) -> Result<(), Fail> {
+    let script = nested(rt.alloc(), 64)?;
+    let ran = run(&rt, rt.alloc(), script.as_bytes(), b"x\n1\n", &[])?;
+    answers(&rt, &ran, b"x\n1\n");
+    let script = nested(rt.alloc(), 65)?;
+    let ran = run(&rt, rt.alloc(), script.as_bytes(), b"x\n1\n", &[])?;
+    refuses(&rt, &ran, 5, "rpt: nested too deep at 110\n");
     Ok(())
 }
 

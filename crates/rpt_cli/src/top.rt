@@ -1,10 +1,10 @@
 // The top call.
-ghost use Rattle.std.specs.Prelude.{◌≡◌, ◌≢◌, ◌⊎◌, ◌<◌, ◌+◌, ◌-◌, ◌^◌, List, ℕ, min, IsOk, IsOkAnd, IfSome};
+ghost use Rattle.std.specs.Prelude.{◌≡◌, ◌≢◌, ◌⊎◌, ◌<◌, ◌+◌, ◌-◌, ◌^◌, List, ℕ, min, IsOk, IsOkAnd};
 ghost use Rattle.std.specs.Io.KnownBytes.{Appends};
 ghost use Rattle.rpt_outside.specs.Causes.{Rose};
 ghost use Rattle.rpt_outside.specs.Whole.{bytes_of};
 ghost use Rattle.rpt_cli.specs.Words.{command_of, words_of};
-ghost use Rattle.rpt_cli.specs.Course.{Gives, NoneRose, outcome};
+ghost use Rattle.rpt_cli.specs.Course.{Answer, Gives, IsOutcome, NoneRose};
 ghost use Rattle.rpt_cli.specs.Command.{course};
 ghost use Rattle.rpt_cli.specs.Outcome.{Answers};
 
@@ -37,8 +37,8 @@ pub fn run_command<R: Threads + Sync, F: Files, S: Sink, M: Sink, G: Gate + Sync
         out.old out.new messages.old messages.new result }
 
     // Where the files tell what the command asks for, the output is the text of that.
-    ensures text { result ≡ 0 → IfSome (outcome (F.contents files.old) (course (words_of words.now))) (λ answer.
-        IsOkAnd answer (λ text. Appends (S.taken out.old) (S.taken out.new) text)) }
+    ensures text { result ≡ 0 → (answer : Answer) → IsOutcome (F.contents files.old) (course (words_of words.now)) answer
+        → IsOkAnd answer (λ text. Appends (S.taken out.old) (S.taken out.new) text) }
 
     // No usage, read fault or write fault without its cause.
     ensures usage { result ≡ 2 → command_of (words_of words.now) ≡ None }
@@ -50,11 +50,11 @@ pub fn run_command<R: Threads + Sync, F: Files, S: Sink, M: Sink, G: Gate + Sync
     ensures quiet { result ≡ 0 → messages.new ≡ messages.old }
 
     // Where no fault comes in between, there is a text, or memory ran out.
-    ensures complete { IfSome (outcome (F.contents files.old) (course (words_of words.now))) (λ answer.
-        IsOk answer
+    ensures complete { (answer : Answer) → IsOutcome (F.contents files.old) (course (words_of words.now)) answer
+        → IsOk answer
         → NoneRose (F.contents files.old) (F.faults files.old) (F.faults files.new) (course (words_of words.now))
         → S.faults out.new < min (S.faults out.old + 1) (2 ^ 64 - 1)
-        → (result ≡ 0) ⊎ (result ≡ 1)) }
+        → (result ≡ 0) ⊎ (result ≡ 1) }
 {
     let _ = rt;
     let _ = gate;

@@ -1,4 +1,6 @@
-pub mod Tokens
-pub mod Form
-pub mod Lexing
+pub mod Kinds
+pub mod Places
+pub mod Grammar
+pub mod Meaning
+pub mod Sentence
 pub mod Reading

@@ -1,179 +1,155 @@
--- The script of bytes as a function. That it is the form's is a clause of `read_script`.
-use Rattle.std.specs.Prelude.{◌≡◌, ◌==◌, ℕ, suc, zero, pos, neg_ℤ, nat_le, Bool, true, false, List, [], ◌∷◌, ◌++◌, length, Option, None, Some, Result, Ok, Err, codes, option_and_then, if◌then◌else◌}
-use Rattle.std.specs.Option.{option_map}
-use Rattle.std.specs.Str.{bytes_eq}
-use Rattle.rpt_base.specs.declared.values.ColumnType.{ColumnType}
-use Rattle.rpt_base.specs.declared.values.Value.{Value}
-use Rattle.rpt_base.specs.declared.values.Value.TheVariants as value
-use Rattle.sql_text.specs.declared.script.SmallScript.{SmallScript}
-use Rattle.sql_text.specs.declared.script.ScriptError.{ScriptError}
-use Rattle.sql_text.specs.declared.script.ScriptError.TheVariants.{NotScript, Memory}
-use Rattle.sql_text.specs.declared.tokens.Mark.{Mark as MarkKind}
-use Rattle.sql_text.specs.declared.tokens.Mark.TheVariants as marks
-use Rattle.sql_text.specs.declared.tokens.Token.{Token}
-use Rattle.sql_text.specs.declared.tokens.Token.TheVariants.{Word, Number, Text, Mark}
-use Rattle.sql_text.specs.Form.{is_reserved, type_of}
-use Rattle.sql_text.specs.Lexing.{tokens_of}
+-- What a reader of a part does, exactly, and what may come first in a part and after it.
+use Rattle.std.specs.Prelude.{◌≡◌, ℕ, ◌+◌, ◌≤◌, ◌<◌, Bool, true, false, ◌||◌, ◌&&◌, not, List, [], ◌∷◌, ◌++◌, length, ◌⊎◌, if◌then◌else◌, Result, Ok, Err}
+use Rattle.sql_lex.specs.declared.tokens.Token.{Token}
+use Rattle.sql_text.specs.declared.kinds.Kind.{Kind}
+use Rattle.sql_text.specs.declared.kinds.Kind.TheVariants as k
+use Rattle.sql_text.specs.declared.errors.ParseError.{ParseError}
+use Rattle.sql_text.specs.declared.errors.ParseError.TheVariants.{Syntax, TooDeep, Memory}
+use Rattle.sql_text.specs.Kinds.{kind_of, code, numbers, has}
+use Rattle.sql_text.specs.Grammar.{Line, script, create, column, select, items, item, source, factor, colref, cond, conj, neg, prim, operand, literal, names, Part, token, nothing, ◌▸◌, ◌∣◌, many, level, line, Tree, text, depth, Front, front_text, front_depth}
+use Rattle.sql_text.specs.Sentence.{place}
 
-infixl 10 ◌>>=◌
--- the next step, where this one found something
-abbrev pub ◌>>=◌ : {A B : Type 0} → Option A → (A → Option B) → Option B
-o >>= f = option_and_then f o
+-- no number stands in both lists
+abbrev pub apart : List ℕ → List ℕ → Bool
+apart [] ys = true
+apart (x ∷ xs) ys = not (has ys x) && apart xs ys
 
--- a part at the beginning of the tokens, and the tokens behind it
-abbrev pub Part : Type 0 → Type 0
-Part X = Option (X × List Token)
+abbrev pub subset : List ℕ → List ℕ → Bool
+subset [] ys = true
+subset (x ∷ xs) ys = has ys x && subset xs ys
 
--- the word that stands first
-abbrev pub first_word : List Token → Part (List ℕ)
-first_word (Word word ∷ rest) = Some (word, rest)
-first_word tokens = None
+-- the list begins with a token of one of these kinds
+abbrev pub Heads : List ℕ → List Token → Type 0
+Heads kinds [] = ⊥
+Heads kinds (t ∷ ts) = has kinds (code (kind_of t)) ≡ true
 
--- the mark that stands first
-abbrev pub first_mark : List Token → Part MarkKind
-first_mark (Mark mark ∷ rest) = Some (mark, rest)
-first_mark tokens = None
+abbrev literals : List Kind
+literals = k.Number ∷ k.Minus ∷ k.Text ∷ []
 
--- marks by number, to compare them
-abbrev pub number_of_mark : MarkKind → ℕ
-number_of_mark marks.LeftParen = 0
-number_of_mark marks.RightParen = 1
-number_of_mark marks.Comma = 2
-number_of_mark marks.Semicolon = 3
-number_of_mark marks.Dot = 4
-number_of_mark marks.Star = 5
-number_of_mark marks.Minus = 6
-number_of_mark marks.Eq = 7
-number_of_mark marks.Ne = 8
-number_of_mark marks.Lt = 9
-number_of_mark marks.Le = 10
-number_of_mark marks.Gt = 11
-number_of_mark marks.Ge = 12
+abbrev operands : List ℕ
+operands = numbers names ++ numbers literals
 
--- what stands behind this mark
-unfoldable pub mark : MarkKind → List Token → Option (List Token)
-mark wanted tokens = first_mark tokens >>= (λ found. if number_of_mark found.0 == number_of_mark wanted then Some found.1 else None)
+-- the kinds that a line can begin with
+abbrev pub first_line : Line → List ℕ
+first_line script = code k.Create ∷ code k.Select ∷ []
+first_line create = code k.Create ∷ []
+first_line column = numbers names
+first_line select = code k.Select ∷ []
+first_line items = code k.Star ∷ numbers names
+first_line item = numbers names
+first_line source = numbers names
+first_line factor = numbers names
+first_line colref = numbers names
+first_line cond = code k.Not ∷ code k.LeftParen ∷ operands
+first_line conj = code k.Not ∷ code k.LeftParen ∷ operands
+first_line neg = code k.Not ∷ code k.LeftParen ∷ operands
+first_line prim = code k.LeftParen ∷ operands
+first_line operand = operands
+first_line literal = numbers literals
 
--- what stands behind this word
-unfoldable pub keyword : List ℕ → List Token → Option (List Token)
-keyword wanted tokens = first_word tokens >>= (λ found. if bytes_eq found.0 wanted then Some found.1 else None)
+abbrev after_factor : List ℕ
+after_factor = code k.As ∷ numbers names
 
--- a word that isn't reserved
-unfoldable pub name : List Token → Part (List ℕ)
-name tokens = first_word tokens >>= (λ found. if is_reserved found.0 then None else Some found)
+abbrev after_cond : List ℕ
+after_cond = code k.Or ∷ code k.And ∷ code k.Dot ∷ []
 
--- a word that names a type
-unfoldable pub column_type : List Token → Part ColumnType
-column_type tokens = first_word tokens >>= (λ found. option_map (λ kind. (kind, found.1)) (type_of found.0))
+abbrev after_source : List ℕ
+after_source = code k.Inner ∷ code k.Join ∷ (after_factor ++ after_cond)
 
--- word type
-unfoldable pub column : List Token → Part (List ℕ × ColumnType)
-column tokens = do
-  name ← name tokens
-  kind ← column_type name.1
-  Some ((name.0, kind.0), kind.1)
+abbrev after_select : List ℕ
+after_select = code k.Comma ∷ code k.Where ∷ after_source
 
--- these members, and then others
-abbrev pub before : {X : Type 0} → List X → Part (List X) → Part (List X)
-before front None = None
-before front (Some (others, rest)) = Some (front ++ others, rest)
+-- the kinds with which a longer front goes on behind a derivation of a line
+abbrev pub after_line : Line → List ℕ
+after_line script = code k.Semicolon ∷ after_select
+after_line create = []
+after_line column = []
+after_line select = after_select
+after_line items = code k.Comma ∷ code k.Dot ∷ after_factor
+after_line item = code k.Dot ∷ after_factor
+after_line source = after_source
+after_line factor = after_factor
+after_line colref = code k.Dot ∷ []
+after_line cond = after_cond
+after_line conj = code k.And ∷ code k.Dot ∷ []
+after_line neg = code k.Dot ∷ []
+after_line prim = code k.Dot ∷ []
+after_line operand = code k.Dot ∷ []
+after_line literal = []
 
--- the last member, or one with others behind a comma
-abbrev pub with_others : {X : Type 0} → X × List Token → (List Token → Part (List X)) → Option (List Token) → Part (List X)
-with_others (x, rest) others None = Some (x ∷ [], rest)
-with_others (x, rest) others (Some more) = before (x ∷ []) (others more)
+-- whether no token may be a derivation
+abbrev pub nullable : Part → Bool
+nullable (token kinds) = false
+nullable nothing = true
+nullable (p ▸ q) = nullable p && nullable q
+nullable (p ∣ q) = nullable p || nullable q
+nullable (many p) = true
+nullable (level kind p) = false
+nullable (line l) = false
 
--- one member or more, with a comma between two, in so many turns
-abbrev pub members : {X : Type 0} → (List Token → Part X) → ℕ → List Token → Part (List X)
-members member zero tokens = None
-members member (suc turns) tokens = member tokens >>= (λ x. with_others x (members member turns) (mark marks.Comma x.1))
+-- the kinds that a derivation can begin with
+abbrev pub first : Part → List ℕ
+first (token kinds) = numbers kinds
+first nothing = []
+first (p ▸ q) = first p ++ (if nullable p then first q else [])
+first (p ∣ q) = first p ++ first q
+first (many p) = first p
+first (level kind p) = code kind ∷ []
+first (line l) = first_line l
 
--- one member or more, with a comma between two
-unfoldable pub separated : {X : Type 0} → (List Token → Part X) → List Token → Part (List X)
-separated member tokens = members member (length tokens) tokens
+-- the kinds with which a longer front goes on behind a derivation
+abbrev pub after : Part → List ℕ
+after (token kinds) = []
+after nothing = []
+after (p ▸ q) = after q ++ (if nullable q then after p else [])
+after (p ∣ q) = after p ++ after q ++ (if nullable p then first q else []) ++ (if nullable q then first p else [])
+after (many p) = first p ++ after p
+after (level kind p) = after p
+after (line l) = after_line l
 
--- the number behind a minus
-abbrev pub negative : List Token → Part Value
-negative (Number n ∷ rest) = Some (value.Int (neg_ℤ (pos n)), rest)
-negative tokens = None
+-- the part is read from the tokens, up to the rest
+pub record Reads {p : Part} (levels : ℕ) (tokens : List Token) (d : Tree p) (rest : List Token) : Type 0 where
+  pub spells : text d rest ≡ tokens
+  pub within : depth d ≤ levels
+  pub far : (f : Front p) (us : List Token) → front_text f us ≡ tokens → length rest ≤ length us
+  pub only : (e : Tree p) (us : List Token) → text e us ≡ tokens → ((us ≡ rest) × (e ≡ d)) ⊎ Heads (after p) us
 
--- a number of at most 9223372036854775807, a minus and a number, or a text
-unfoldable pub literal : List Token → Part Value
-literal (Number n ∷ rest) = if nat_le n 9223372036854775807 then Some (value.Int (pos n), rest) else None
-literal (Text text ∷ rest) = Some (value.Text text, rest)
-literal (Mark marks.Minus ∷ rest) = negative rest
-literal tokens = None
+-- the tokens before the rest are a front, and none goes further
+pub record Stops (p : Part) (levels : ℕ) (tokens rest : List Token) : Type 0 where
+  pub front : (f : Front p) × (front_text f rest ≡ tokens) × (front_depth f ≤ levels)
+  pub far : (f : Front p) (us : List Token) → front_text f us ≡ tokens → length rest ≤ length us
+  pub only : (e : Tree p) (us : List Token) → text e us ≡ tokens → Heads (after p) us
 
--- word "=" literal
-unfoldable pub equation : List Token → Part (List ℕ × Value)
-equation tokens = do
-  name ← name tokens
-  rest ← mark marks.Eq name.1
-  literal ← literal rest
-  Some ((name.0, literal.0), literal.1)
+-- the tokens before t are a front in these levels, and t opens one more
+pub record Deepens (p : Part) (levels : ℕ) (tokens : List Token) (t : Token) (rest : List Token) : Type 0 where
+  pub before : (f : Front p) × (front_text f (t ∷ rest) ≡ tokens) × (front_depth f ≤ levels)
+  pub opens : (f : Front p) × (front_text f rest ≡ tokens) × (front_depth f ≡ levels + 1)
+  pub least : (f : Front p) (us : List Token) → front_text f us ≡ tokens → length us ≤ length rest → levels < front_depth f
+  pub only : (e : Tree p) (us : List Token) → text e us ≡ tokens → (length us ≤ length rest) ⊎ Heads (after p) us
 
--- an equation where these are the tokens behind WHERE, or no condition
-abbrev pub condition_behind : List Token → Option (List Token) → Part (Option (List ℕ × Value))
-condition_behind tokens None = Some (None, tokens)
-condition_behind tokens (Some rest) = equation rest >>= (λ equal. Some (Some equal.0, equal.1))
+-- the part is read, and means this
+pub record Parsed {p : Part} {X : Type 0} (view : Tree p → X) (levels : ℕ) (tokens : List Token) (x : X) (rest : List Token) : Type 0 where
+  pub tree : Tree p
+  pub reads : Reads levels tokens tree rest
+  pub value : view tree ≡ x
 
--- [ WHERE word "=" literal ]
-unfoldable pub condition : List Token → Part (Option (List ℕ × Value))
-condition tokens = condition_behind tokens (keyword (codes "where") tokens)
+-- the part isn't read
+abbrev pub Fails : Part → ℕ → List Token → ℕ → ParseError → Type 0
+Fails p levels tokens end (Syntax at) = (rest : List Token) × Stops p levels tokens rest × (at ≡ place rest end)
+Fails p levels tokens end (TooDeep at) = (t : Token) × (rest : List Token) × Deepens p levels tokens t rest × (at ≡ t.start)
+Fails p levels tokens end Memory = Unit {0}
 
--- CREATE TABLE word "(" columns ")" ";"
-unfoldable pub declaration : List Token → Part (List ℕ × List (List ℕ × ColumnType))
-declaration tokens = do
-  rest ← keyword (codes "create") tokens
-  rest ← keyword (codes "table") rest
-  table ← name rest
-  rest ← mark marks.LeftParen table.1
-  columns ← separated column rest
-  rest ← mark marks.RightParen columns.1
-  rest ← mark marks.Semicolon rest
-  Some ((table.0, columns.0), rest)
+-- what a function that reads a part gives: the value and the rest, or where it fails
+abbrev pub Gives : {p : Part} {X R : Type 0} → (Tree p → X) → (R → X) → (R → List Token) → ℕ → List Token → ℕ → Result R ParseError → Type 0
+Gives view value rest levels tokens end (Ok r) = Parsed view levels tokens (value r) (rest r)
+Gives {p} view value rest levels tokens end (Err e) = Fails p levels tokens end e
 
--- SELECT items FROM word
-unfoldable pub selection : List Token → Part (List (List ℕ) × List ℕ)
-selection tokens = do
-  rest ← keyword (codes "select") tokens
-  items ← separated name rest
-  rest ← keyword (codes "from") items.1
-  table ← name rest
-  Some ((items.0, table.0), table.1)
+-- what a function that reads a part of no meaning gives: the rest, or where it fails
+abbrev pub Passes : {R : Type 0} → Part → (R → List Token) → ℕ → List Token → ℕ → Result R ParseError → Type 0
+Passes p rest levels tokens end result = Gives {X = Unit {0}} (λ (d : Tree p). tt) (λ _. tt) rest levels tokens end result
 
--- no more tokens
-abbrev pub is_none_left : List Token → Bool
-is_none_left [] = true
-is_none_left (t ∷ tokens) = false
-
--- no more tokens, where these are the ones behind a semicolon
-abbrev pub ends_behind : List Token → Option (List Token) → Bool
-ends_behind tokens None = is_none_left tokens
-ends_behind tokens (Some rest) = is_none_left rest
-
--- [ ";" ], and no more tokens
-unfoldable pub is_ending : List Token → Bool
-is_ending tokens = ends_behind tokens (mark marks.Semicolon tokens)
-
--- the script that the tokens spell
-unfoldable pub sentence : List Token → Option SmallScript
-sentence tokens = do
-  declared ← declaration tokens
-  selected ← selection declared.1
-  equal ← condition selected.1
-  if is_ending equal.1 then Some (record { table = declared.0.0; columns = declared.0.1; items = selected.0.0; from = selected.0.1; equal = equal.0 }) else None
-
--- what the bytes ask, if they are of the form
-unfoldable pub script_of : List ℕ → Option SmallScript
-script_of bytes = tokens_of bytes >>= sentence
-
--- what is said, seen so in the answer; or that there is none; or memory ran out
-abbrev pub Gives : {X Y : Type 0} → (Y → X) → Option X → Result Y ScriptError → Type 0
-Gives seen said (Ok y) = said ≡ Some (seen y)
-Gives seen said (Err NotScript) = said ≡ None
-Gives seen said (Err Memory) = Unit {0}
-
--- the bytes' script, or that there is none; or memory ran out
-abbrev pub Reads : Option SmallScript → Result SmallScript ScriptError → Type 0
-Reads said result = Gives (λ script. script) said result
+-- the tokens begin with one of this kind, before the rest
+pub record Starts (kind : Kind) (tokens rest : List Token) : Type 0 where
+  pub token : Token
+  pub splits : tokens ≡ token ∷ rest
+  pub is : kind_of token ≡ kind

@@ -1,18 +1,20 @@
-//! Scripts: their tokens, and what they ask.
-//!
-//! `read_script` gives what a script of the small form asks, or says that the bytes are no such script. The layers above rely
-//! on this: unless memory runs out it is `Ok` exactly for the bytes of the form in `specs/Form.antt`, and then with the one
-//! script that they spell.
+//! The syntax tree of a script.
 #![tactic(auto)]
 
-mod lexing;
+mod conditions;
+mod errors;
+mod kinds;
+mod operands;
+mod parsing;
 mod reading;
-mod script;
-mod tokens;
-mod words;
+mod sources;
+mod tree;
 
-pub use reading::{form_is_read, read_script};
-pub use script::{ScriptError, SmallScript};
+pub use errors::ParseError;
+pub use parsing::parse;
+pub use tree::{
+    Alias, ColumnItem, ColumnName, Cond, CreateTable, Expr, Item, Items, Op, Script, Select, Source,
+};
 
 #[cfg(test)]
 mod tests;

@@ -1,207 +1,346 @@
-// A script from its bytes: one function for each part of the form, which gives the part and the tokens behind it.
-ghost use Rattle.std.specs.Prelude.{◌≡◌, ◌≤◌, IfOk, MatchResult, List, ℕ, pos, neg_ℤ, SomeIff};
-ghost use Rattle.sql_text.specs.declared.script.SmallScript.{SmallScript as Script};
-ghost use Rattle.sql_text.specs.Form.{IsScript};
-ghost use Rattle.sql_text.specs.Reading.{Reads, Gives, script_of, name as name_said, column as column_said, separated, literal as literal_said, negative as negative_said, equation as equation_said, condition as condition_said, declaration as declaration_said, selection as selection_said, is_ending as ending_said, sentence as sentence_said};
+// The least parts of a script. Each reader takes the tokens that are left, and gives what it read and the tokens behind.
+ghost use Rattle.std.specs.Prelude.{◌≡◌, ◌≤◌, ◌∷◌, [], ℕ, pos, neg_ℤ, true, IfOk, IfSome, IfNone, IsTrue, ◌↔◌};
+ghost use Rattle.sql_text.specs.Kinds.{kind_of as its_kind, code, numbers, among};
+ghost use Rattle.sql_text.specs.Grammar.{word, names, types, comparisons, magnitudes};
+ghost use Rattle.sql_text.specs.Meaning.{written as written_in, magnitude as magnitude_in, named, is_there, type_by, type_of as type_said, op_by, op_of as op_said, negative_of, literal_of, text_of as text_said};
+ghost use Rattle.sql_text.specs.Reading.{Gives, Passes, Parsed, Heads, Starts};
+ghost use Rattle.sql_text.specs.Sentence.{place};
 
-use crate::lexing::tokens_of;
-use crate::script::{ScriptError, SmallScript};
-use crate::tokens::{Magnitude, Mark, Token};
-use crate::words::{column_type, keyword, mark, name};
-use rpt_base::{ColumnType, Listed, Name, Value};
+use crate::errors::ParseError;
+use crate::kinds::{Kind, kind_of};
+use crate::tree::{Alias, Op};
+use rpt_base::{ColumnType, Memory, Name, Str, Value};
+use sql_lex::{Token, TokenKind};
 use std::alloc::Global;
 
-/// What a script of the small form asks. `NotScript` comes exactly where the bytes aren't of that form.
-pub fn read_script(alloc: Global, bytes: &[u8]) -> Result<SmallScript, ScriptError>
-    ensures reads { Reads (script_of bytes.now) result }
-    ensures script { IfOk result (λ script. IsScript bytes.now script) }
-    ensures only { (script : Script) → IsScript bytes.now script → MatchResult result (λ found. found ≡ script) (λ e. e ≡ ScriptError.Memory) }
+/// The offset of the first token or, where there is none, the end.
+pub fn place_of(tokens: &[Token], end: u32) -> u32
+    ensures { result ≡ place tokens.now end }
 {
-    let tokens = tokens_of(alloc, bytes)?;
-    sentence(alloc, tokens.as_slice())
+    match tokens.first() {
+        Some(token) => token.start,
+        None => end,
+    }
 }
 
-/// The theorem on the form, for all bytes; the call does nothing. A script of the form is what `script_of` reads, and what
-/// `script_of` reads is a script of the form. So bytes of the form ask one thing.
-pub fn form_is_read()
-    ensures read { (bytes : List ℕ) (script : Script) → IsScript bytes script → script_of bytes ≡ Some script }
-    ensures formed { (bytes : List ℕ) (script : Script) → script_of bytes ≡ Some script → IsScript bytes script }
-{}
-
-#[tactic(auto, unfolding(crate::specs::Reading::sentence))]
-fn sentence(alloc: Global, tokens: &[Token]) -> Result<SmallScript, ScriptError>
-    ensures { Gives (λ script. script) (sentence_said tokens.now) result }
+fn is_kind(token: &Token, kind: Kind) -> bool
+    ensures { IsTrue result ↔ (its_kind token.now ≡ kind) }
 {
-    let ((table, columns), rest) = declaration(alloc, tokens)?;
-    let ((items, from), rest) = selection(alloc, rest)?;
-    let (equal, rest) = condition(alloc, rest)?;
-    if is_ending(rest) {
-        Ok(SmallScript {
-            table,
-            columns,
-            items,
-            from,
-            equal,
-        })
+    kind_of(token) == kind
+}
+
+/// The first token, if it is of this kind, and what follows it.
+pub fn first_is(tokens: &[Token], kind: Kind) -> Option<(&Token, &[Token])>
+    ensures some { IfSome result (λ found. (tokens.now ≡ found.0.now ∷ found.1.now) × (its_kind found.0.now ≡ kind)) }
+    ensures none { IfNone result (Heads (code kind ∷ []) tokens.now → ⊥) }
+{
+    let (token, rest) = tokens.split_first()?;
+    if is_kind(token, kind) {
+        Some((token, rest))
     } else {
-        Err(ScriptError::NotScript)
+        None
     }
 }
 
-type Columns = Listed<(Name, ColumnType)>;
-
-// CREATE TABLE word "(" columns ")" ";"
-#[tactic(auto, unfolding(crate::specs::Reading::declaration))]
-fn declaration(alloc: Global, tokens: &[Token]) -> Result<((Name, Columns), &[Token]), ScriptError>
-    ensures { Gives (λ part. (part.0, part.1.now)) (declaration_said tokens.now) result }
+/// What follows the first token, if that is of this kind.
+pub fn after(tokens: &[Token], kind: Kind) -> Option<&[Token]>
+    ensures some { IfSome result (λ rest. Starts kind tokens.now rest.now) }
+    ensures none { IfNone result (Heads (code kind ∷ []) tokens.now → ⊥) }
 {
-    let rest = keyword(tokens, b"create").ok_or(ScriptError::NotScript)?;
-    let rest = keyword(rest, b"table").ok_or(ScriptError::NotScript)?;
-    let (table, rest) = name(alloc, rest)?;
-    let rest = mark(rest, Mark::LeftParen).ok_or(ScriptError::NotScript)?;
-    let (columns, rest) = columns(alloc, rest)?;
-    let rest = mark(rest, Mark::RightParen).ok_or(ScriptError::NotScript)?;
-    let rest = mark(rest, Mark::Semicolon).ok_or(ScriptError::NotScript)?;
-    Ok(((table, columns), rest))
+    let (_, rest) = first_is(tokens, kind)?;
+    Some(rest)
 }
 
-// SELECT items FROM word
-#[tactic(auto, unfolding(crate::specs::Reading::selection))]
-fn selection(
-    alloc: Global,
-    tokens: &[Token],
-) -> Result<((Listed<Name>, Name), &[Token]), ScriptError>
-    ensures { Gives (λ part. (part.0, part.1.now)) (selection_said tokens.now) result }
+/// Whether a token of this kind stands first.
+pub fn begins_with(tokens: &[Token], kind: Kind) -> bool
+    ensures { IsTrue result ↔ Heads (code kind ∷ []) tokens.now }
 {
-    let rest = keyword(tokens, b"select").ok_or(ScriptError::NotScript)?;
-    let (items, rest) = items(alloc, rest)?;
-    let rest = keyword(rest, b"from").ok_or(ScriptError::NotScript)?;
-    let (table, rest) = name(alloc, rest)?;
-    Ok(((items, table), rest))
-}
-
-// [ WHERE word "=" literal ]
-#[tactic(auto, unfolding(crate::specs::Reading::condition))]
-fn condition(
-    alloc: Global,
-    tokens: &[Token],
-) -> Result<(Option<(Name, Value)>, &[Token]), ScriptError>
-    ensures { Gives (λ part. (part.0, part.1.now)) (condition_said tokens.now) result }
-{
-    match keyword(tokens, b"where") {
-        Some(rest) => {
-            let (equal, rest) = equation(alloc, rest)?;
-            Ok((Some(equal), rest))
-        }
-        None => Ok((None, tokens)),
+    match tokens.first() {
+        Some(token) => is_kind(token, kind),
+        None => false,
     }
 }
 
-// word "=" literal
-#[tactic(auto, unfolding(crate::specs::Reading::equation))]
-fn equation(alloc: Global, tokens: &[Token]) -> Result<((Name, Value), &[Token]), ScriptError>
-    ensures { Gives (λ part. (part.0, part.1.now)) (equation_said tokens.now) result }
+/// What follows a token of this kind, which must stand first.
+pub fn expect(tokens: &[Token], end: u32, kind: Kind) -> Result<&[Token], ParseError>
+    ensures { (n : ℕ) → Passes (word kind) (λ rest. rest.now) n tokens.now end result }
 {
-    let (name, rest) = name(alloc, tokens)?;
-    let rest = mark(rest, Mark::Eq).ok_or(ScriptError::NotScript)?;
-    let (literal, rest) = literal(alloc, rest)?;
-    Ok(((name, literal), rest))
-}
-
-// A number of at most 9223372036854775807, a minus and a number, or a text.
-#[tactic(auto, unfolding(crate::specs::Reading::literal))]
-fn literal(alloc: Global, tokens: &[Token]) -> Result<(Value, &[Token]), ScriptError>
-    ensures { Gives (λ part. (part.0, part.1.now)) (literal_said tokens.now) result }
-{
-    match tokens.split_first() {
-        Some((Token::Number(number), rest)) => match positive(number) {
-            Some(number) => Ok((Value::Int(number), rest)),
-            None => Err(ScriptError::NotScript),
-        },
-        Some((Token::Text(text), rest)) => Ok((Value::Text(text.copy(alloc)?), rest)),
-        Some((Token::Mark(Mark::Minus), rest)) => behind_minus(rest),
-        _ => Err(ScriptError::NotScript),
+    match after(tokens, kind) {
+        Some(rest) => Ok(rest),
+        None => Err(ParseError::Syntax {
+            at: place_of(tokens, end),
+        }),
     }
 }
 
-// The number, where it is one without a minus.
-fn positive(number: &Magnitude) -> Option<i64>
-    ensures { SomeIff result (number.now ≤ 9223372036854775807) (pos number.now) }
+/// Whether a token of this kind stands first, and what follows it.
+pub fn passes(tokens: &[Token], kind: Kind) -> (bool, &[Token])
+    ensures { (n : ℕ) → Parsed (is_there {p = word kind}) n tokens.now result.0 result.1.now }
 {
-    i64::try_from(number.value()).ok()
-}
-
-// The number behind a minus.
-fn behind_minus(tokens: &[Token]) -> Result<(Value, &[Token]), ScriptError>
-    ensures { Gives (λ part. (part.0, part.1.now)) (negative_said tokens.now) result }
-{
-    match tokens.split_first() {
-        Some((Token::Number(number), rest)) => Ok((Value::Int(negative(number)), rest)),
-        _ => Err(ScriptError::NotScript),
+    match after(tokens, kind) {
+        Some(rest) => (true, rest),
+        None => (false, tokens),
     }
 }
 
-// The number with a minus before it.
-fn negative(number: &Magnitude) -> i64
-    ensures { result ≡ neg_ℤ (pos number.now) }
+// The bytes of a word, a quoted name or a text.
+fn written(token: &Token) -> &[u8]
+    ensures { result.now ≡ written_in token.now.kind }
 {
-    let value = number.value();
-    if value == Magnitude::MAX {
-        i64::MIN
+    match &token.kind {
+        TokenKind::Word(text) => text.bytes(),
+        TokenKind::Quoted(text) => text.bytes(),
+        TokenKind::Text(text) => text.bytes(),
+        TokenKind::Number(_) => &[],
+        TokenKind::Mark(_) => &[],
+    }
+}
+
+fn is_name(kind: Kind) -> bool
+    ensures { result ≡ among names kind }
+{
+    match kind {
+        Kind::Name | Kind::Int | Kind::Integer | Kind::Bigint | Kind::TextType => true,
+        _ => false,
+    }
+}
+
+// A name's token, if one stands first.
+fn first_name(tokens: &[Token]) -> Option<(&Token, &[Token])>
+    ensures some { IfSome result (λ found. (tokens.now ≡ found.0.now ∷ found.1.now) × (among names (its_kind found.0.now) ≡ true)) }
+    ensures none { IfNone result (Heads (numbers names) tokens.now → ⊥) }
+{
+    let (token, rest) = tokens.split_first()?;
+    if is_name(kind_of(token)) {
+        Some((token, rest))
     } else {
-        -(value as i64)
+        None
     }
 }
 
-// One column or more, with a comma between two.
-fn columns(alloc: Global, tokens: &[Token]) -> Result<(Columns, &[Token]), ScriptError>
-    ensures { Gives (λ part. (part.0, part.1.now)) (separated column_said tokens.now) result }
+/// Whether a name stands first.
+pub fn begins_name(tokens: &[Token]) -> bool
+    ensures { IsTrue result ↔ Heads (numbers names) tokens.now }
 {
-    let mut columns = Vec::new(alloc);
-    let mut rest = tokens;
-    loop {
-        let (next, behind) = column(alloc, rest)?;
-        columns.push(next)?;
-        match mark(behind, Mark::Comma) {
-            Some(more) => rest = more,
-            None => return Ok((Listed::from_vec(columns), behind)),
+    match tokens.first() {
+        Some(token) => is_name(kind_of(token)),
+        None => false,
+    }
+}
+
+fn name_of(alloc: Global, token: &Token) -> Result<Name, Memory>
+    requires { among names (its_kind token.now) ≡ true }
+    ensures { IfOk result (λ name. name ≡ written_in token.now.kind) }
+{
+    Name::make(alloc, written(token))
+}
+
+/// A name, with its place.
+pub fn name(alloc: Global, tokens: &[Token], end: u32) -> Result<(Alias, &[Token]), ParseError>
+    ensures { (n : ℕ) → Gives named (λ found. found.0) (λ found. found.1.now) n tokens.now end result }
+{
+    match first_name(tokens) {
+        Some((token, rest)) => {
+            let name = name_of(alloc, token)?;
+            Ok((
+                Alias {
+                    at: token.start,
+                    name,
+                },
+                rest,
+            ))
         }
+        None => Err(ParseError::Syntax {
+            at: place_of(tokens, end),
+        }),
     }
 }
 
-// word type
-#[tactic(auto, unfolding(crate::specs::Reading::column))]
-fn column(alloc: Global, tokens: &[Token]) -> Result<((Name, ColumnType), &[Token]), ScriptError>
-    ensures { Gives (λ part. (part.0, part.1.now)) (column_said tokens.now) result }
+fn is_type(kind: Kind) -> bool
+    ensures { result ≡ among types kind }
 {
-    let (name, rest) = name(alloc, tokens)?;
-    let (kind, rest) = column_type(rest).ok_or(ScriptError::NotScript)?;
-    Ok(((name, kind), rest))
+    match kind {
+        Kind::Int | Kind::Integer | Kind::Bigint | Kind::TextType => true,
+        _ => false,
+    }
 }
 
-// One name or more, with a comma between two.
-fn items(alloc: Global, tokens: &[Token]) -> Result<(Listed<Name>, &[Token]), ScriptError>
-    ensures { Gives (λ part. (part.0, part.1.now)) (separated name_said tokens.now) result }
+fn type_of(kind: Kind) -> ColumnType
+    ensures { result ≡ type_by kind }
 {
-    let mut items = Vec::new(alloc);
-    let mut rest = tokens;
-    loop {
-        let (next, behind) = name(alloc, rest)?;
-        items.push(next)?;
-        match mark(behind, Mark::Comma) {
-            Some(more) => rest = more,
-            None => return Ok((Listed::from_vec(items), behind)),
+    match kind {
+        Kind::TextType => ColumnType::Text,
+        _ => ColumnType::Int,
+    }
+}
+
+// A type's token, if one stands first.
+fn first_type(tokens: &[Token]) -> Option<(&Token, &[Token])>
+    ensures some { IfSome result (λ found. (tokens.now ≡ found.0.now ∷ found.1.now) × (among types (its_kind found.0.now) ≡ true)) }
+    ensures none { IfNone result (Heads (numbers types) tokens.now → ⊥) }
+{
+    let (token, rest) = tokens.split_first()?;
+    if is_type(kind_of(token)) {
+        Some((token, rest))
+    } else {
+        None
+    }
+}
+
+/// A type.
+pub fn column_type(tokens: &[Token], end: u32) -> Result<(ColumnType, &[Token]), ParseError>
+    ensures { (n : ℕ) → Gives type_said (λ found. found.0) (λ found. found.1.now) n tokens.now end result }
+{
+    match first_type(tokens) {
+        Some((token, rest)) => Ok((type_of(kind_of(token)), rest)),
+        None => Err(ParseError::Syntax {
+            at: place_of(tokens, end),
+        }),
+    }
+}
+
+fn is_comparison(kind: Kind) -> bool
+    ensures { result ≡ among comparisons kind }
+{
+    match kind {
+        Kind::Eq | Kind::Ne | Kind::Lt | Kind::Le | Kind::Gt | Kind::Ge => true,
+        _ => false,
+    }
+}
+
+fn op_of(kind: Kind) -> Op
+    ensures { result ≡ op_by kind }
+{
+    match kind {
+        Kind::Eq => Op::Eq,
+        Kind::Ne => Op::Ne,
+        Kind::Lt => Op::Lt,
+        Kind::Le => Op::Le,
+        Kind::Gt => Op::Gt,
+        _ => Op::Ge,
+    }
+}
+
+// A comparison's token, if one stands first.
+fn first_comparison(tokens: &[Token]) -> Option<(&Token, &[Token])>
+    ensures some { IfSome result (λ found. (tokens.now ≡ found.0.now ∷ found.1.now) × (among comparisons (its_kind found.0.now) ≡ true)) }
+    ensures none { IfNone result (Heads (numbers comparisons) tokens.now → ⊥) }
+{
+    let (token, rest) = tokens.split_first()?;
+    if is_comparison(kind_of(token)) {
+        Some((token, rest))
+    } else {
+        None
+    }
+}
+
+/// How operands are compared, if that stands first.
+pub fn comparison(tokens: &[Token]) -> Option<(Op, &[Token])>
+    ensures some { IfSome result (λ found. (n : ℕ) → Parsed op_said n tokens.now found.0 found.1.now) }
+    ensures begins { IfSome result (λ found. Heads (numbers comparisons) tokens.now) }
+    ensures none { IfNone result (Heads (numbers comparisons) tokens.now → ⊥) }
+{
+    let (token, rest) = first_comparison(tokens)?;
+    Some((op_of(kind_of(token)), rest))
+}
+
+fn text_copy(alloc: Global, token: &Token) -> Result<Str, Memory>
+    ensures { IfOk result (λ text. text ≡ written_in token.now.kind) }
+{
+    match &token.kind {
+        TokenKind::Word(text) => text.copy(alloc),
+        TokenKind::Quoted(text) => text.copy(alloc),
+        TokenKind::Text(text) => text.copy(alloc),
+        TokenKind::Number(_) => Str::from_text(alloc, ""),
+        TokenKind::Mark(_) => Str::from_text(alloc, ""),
+    }
+}
+
+/// A text.
+pub fn text(alloc: Global, tokens: &[Token], end: u32) -> Result<(Str, &[Token]), ParseError>
+    ensures { (n : ℕ) → Gives text_said (λ found. found.0) (λ found. found.1.now) n tokens.now end result }
+{
+    match first_is(tokens, Kind::Text) {
+        Some((token, rest)) => Ok((text_copy(alloc, token)?, rest)),
+        None => Err(ParseError::Syntax {
+            at: place_of(tokens, end),
+        }),
+    }
+}
+
+fn magnitude(token: &Token) -> u64
+    ensures { result ≡ magnitude_in token.now.kind }
+{
+    match &token.kind {
+        TokenKind::Number(number) => *number,
+        TokenKind::Word(_) | TokenKind::Quoted(_) | TokenKind::Text(_) | TokenKind::Mark(_) => 0,
+    }
+}
+
+fn positive(value: u64) -> Value
+    requires { value ≤ 9223372036854775807 }
+    ensures { result ≡ Value.Int (pos value) }
+{
+    Value::Int(value as i64)
+}
+
+fn negative(value: u64) -> Value
+    requires { value ≤ 9223372036854775808 }
+    ensures { result ≡ Value.Int (neg_ℤ (pos value)) }
+{
+    if value == 9_223_372_036_854_775_808 {
+        Value::Int(i64::MIN)
+    } else {
+        Value::Int(-(value as i64))
+    }
+}
+
+fn is_magnitude(kind: Kind) -> bool
+    ensures { result ≡ among magnitudes kind }
+{
+    match kind {
+        Kind::Number | Kind::Greatest => true,
+        _ => false,
+    }
+}
+
+// A number's token, as it may stand behind a minus, if one stands first.
+fn first_magnitude(tokens: &[Token]) -> Option<(&Token, &[Token])>
+    ensures some { IfSome result (λ found. (tokens.now ≡ found.0.now ∷ found.1.now) × (among magnitudes (its_kind found.0.now) ≡ true)) }
+    ensures none { IfNone result (Heads (numbers magnitudes) tokens.now → ⊥) }
+{
+    let (token, rest) = tokens.split_first()?;
+    if is_magnitude(kind_of(token)) {
+        Some((token, rest))
+    } else {
+        None
+    }
+}
+
+// The number behind a minus, as it is with the minus.
+fn behind_minus(tokens: &[Token], end: u32) -> Result<(Value, &[Token]), ParseError>
+    ensures { (n : ℕ) → Gives negative_of (λ found. found.0) (λ found. found.1.now) n tokens.now end result }
+{
+    match first_magnitude(tokens) {
+        Some((token, rest)) => Ok((negative(magnitude(token)), rest)),
+        None => Err(ParseError::Syntax {
+            at: place_of(tokens, end),
+        }),
+    }
+}
+
+/// A literal.
+pub fn literal(alloc: Global, tokens: &[Token], end: u32) -> Result<(Value, &[Token]), ParseError>
+    ensures { (n : ℕ) → Gives literal_of (λ found. found.0) (λ found. found.1.now) n tokens.now end result }
+{
+    if let Some((token, rest)) = first_is(tokens, Kind::Number) {
+        return Ok((positive(magnitude(token)), rest));
+    }
+    match after(tokens, Kind::Minus) {
+        Some(rest) => behind_minus(rest, end),
+        None => {
+            let (text, rest) = text(alloc, tokens, end)?;
+            Ok((Value::Text(text), rest))
         }
-    }
-}
-
-// [ ";" ], and no more tokens.
-#[tactic(auto, unfolding(crate::specs::Reading::is_ending))]
-fn is_ending(tokens: &[Token]) -> bool
-    ensures { result ≡ ending_said tokens.now }
-{
-    match mark(tokens, Mark::Semicolon) {
-        Some(rest) => rest.is_empty(),
-        None => tokens.is_empty(),
     }
 }

@@ -1,4 +1,4 @@
-use Rattle.std.proofs.Common.{◌≡◌, subst, List, ℕ}
+use Rattle.std.proofs.Common.{subst, List, ℕ}
 use Rattle.rpt_outside.specs.Whole.{bytes_of}
 use Rattle.rpt_cli.specs.Course.{Gives}
 use Rattle.rpt_cli.specs.Command.{script_course}

@@ -8,10 +8,10 @@ pub returns-clause-answers : goal.returns-clause-answers
 returns-clause-answers g c = record { answer = bytes_of c.decide-found.result; cause = c.decide-found.ensures; delivered = c.deliver.ensures }
 
 pub returns-clause-text : goal.returns-clause-text
-returns-clause-text g c = Answers-text (returns-clause-answers g c)
+returns-clause-text g c = λ z answer o. Answers-text answer (returns-clause-answers g c) z o
 
 pub returns-clause-complete : goal.returns-clause-complete
-returns-clause-complete g c = Answers-complete (returns-clause-answers g c)
+returns-clause-complete g c = λ answer o ok quiet less. Answers-complete answer (returns-clause-answers g c) o ok quiet less
 
 pub returns-clause-usage : goal.returns-clause-usage
 returns-clause-usage g c = (Answers-tells (words_of c.args.words.now) (returns-clause-answers g c)).usage

@@ -1,0 +1,6 @@
+pub mod BitFacts
+pub mod ColumnFacts
+pub mod CountFacts
+pub mod ListFacts
+pub mod RowFacts
+pub mod TextFacts

@@ -1,0 +1,5 @@
+pub mod Bits
+pub mod Columns
+pub mod Contents
+pub mod Table
+pub mod Texts

@@ -1,0 +1,16 @@
+-- What the bytes of a script are.
+use Rattle.std.specs.Prelude.{List, ℕ, length, Result, Ok, Err}
+use Rattle.sql_lex.specs.declared.tokens.Token.{Token}
+use Rattle.sql_lex.specs.Tokens.{IsBadAt, IsTokenList}
+use Rattle.sql_text.specs.declared.tree.Script.{Script}
+use Rattle.sql_text.specs.Sentence.{IsSentence, IsSyntaxError, IsTooDeep}
+use Rattle.rpt_cli.specs.declared.refusal.Refusal.{Refusal}
+use Rattle.rpt_cli.specs.declared.refusal.Refusal.TheVariants.{Lex, Syntax, TooDeep}
+
+-- a script's bytes are this script, or are refused so
+abbrev pub IsScript : List ℕ → Result Script Refusal → Type 0
+IsScript bytes (Ok script) = (tokens : List Token) × IsTokenList bytes tokens × IsSentence 64 tokens script
+IsScript bytes (Err (Lex offset)) = IsBadAt bytes offset
+IsScript bytes (Err (Syntax offset)) = (tokens : List Token) × IsTokenList bytes tokens × IsSyntaxError 64 tokens (length bytes) offset
+IsScript bytes (Err (TooDeep offset)) = (tokens : List Token) × IsTokenList bytes tokens × IsTooDeep 64 tokens offset
+IsScript bytes (Err e) = ⊥

@@ -1,0 +1,209 @@
+-- How far the lexer's loops have come: one byte more, or one item more.
+use Rattle.std.proofs.Common.{◌≡◌, ◌≢◌, ◌∙◌, ap, sym, subst, refl, ℕ, suc, zero, ◌<◌, ◌≤◌, ◌+◌, ◌-◌, ◌*◌, List, [], ◌∷◌, ◌++◌, length, take, drop, get_or, Bool, true, false, cond, arith, rules, inl, inr}
+use Rattle.std.specs.Prelude.{◌&&◌, ◌==◌, nat_le, Option, Some, None, Result, Ok, Err, if◌then◌else◌}
+use Rattle.std.specs.List.{list_all}
+use Rattle.std.specs.Str.{IsUtf8, is_utf8}
+use Rattle.std.proofs.lemmas.Str.{is_utf8-from_IsUtf8, IsUtf8-from_is_utf8, IsUtf8-from_ascii}
+use Rattle.std.proofs.lemmas.Bool.Decides.{nat_tests}
+use Rattle.rpt_base.specs.Names.{is_name, is_name_byte}
+use Rattle.std.specs.Char.{is_ascii_digit, digit_value}
+use Rattle.std.specs.Str.Parse.{digits_value_after}
+use Rattle.std.proofs.lemmas.Bool.{and_parts, and_from, and_right, eq-eqb, ne_eqb, false_from_ne_true, le-leb, lt-leb}
+use Rattle.std.proofs.lemmas.List.{drop_more, append_assoc, append-nil}
+use Rattle.std.proofs.lemmas.Option.{none-some}
+use Rattle.sql_lex.specs.declared.tokens.Token.{Token}
+use Rattle.sql_lex.specs.declared.tokens.TokenKind.{TokenKind}
+use Rattle.sql_lex.specs.declared.tokens.LexError.{LexError}
+use Rattle.sql_lex.specs.declared.tokens.LexError.TheVariants as error
+use Rattle.sql_lex.specs.Tokens.{begins_word, is_word_byte, is_word, given}
+use Rattle.sql_lex.specs.Lexing.{number_of, grown, text_of, joined, tokens_behind, token_at, item_at, mark_token}
+
+-- the number of digits that follow those of a number, within the limit
+abbrev pub number_after : ℕ → List ℕ → Option ℕ
+number_after value bytes = if list_all is_ascii_digit bytes && nat_le (digits_value_after 10 value bytes) 9223372036854775808 then Some (digits_value_after 10 value bytes) else None
+
+-- digits that follow make a number no less
+pub digits_grow : (value : ℕ) (bytes : List ℕ) → value ≤ digits_value_after 10 value bytes
+digits_grow value [] = omega arith
+digits_grow value (b ∷ bytes) = let more = digits_grow (value * 10 + digit_value b) bytes in omega arith
+
+-- the loop over the digits begins
+pub number_of-start : (bytes : List ℕ) → 1 ≤ length bytes → number_of bytes ≡ number_after 0 bytes
+unfolding number_of
+number_of-start bytes some = let one : nat_le 1 (length bytes) ≡ true = le-leb 1 (length bytes) some in rw one refl
+
+-- no bytes are no number
+pub number_of-none : (bytes : List ℕ) → length bytes ≡ 0 → number_of bytes ≡ None
+unfolding number_of
+number_of-none [] e = refl
+number_of-none (b ∷ bytes) e = absurd (omega arith)
+
+-- a digit more
+pub number_after-digit : (value b : ℕ) (bytes : List ℕ) → is_ascii_digit b ≡ true → number_after value (b ∷ bytes) ≡ number_after (value * 10 + digit_value b) bytes
+number_after-digit value b bytes e = rw e refl
+
+-- a byte that is no digit
+pub number_after-other : (value b : ℕ) (bytes : List ℕ) → is_ascii_digit b ≡ false → number_after value (b ∷ bytes) ≡ None
+number_after-other value b bytes e = rw e refl
+
+-- a number past the limit stays past it
+pub number_after-large : (value : ℕ) (bytes : List ℕ) → 9223372036854775808 < value → number_after value bytes ≡ None
+number_after-large value bytes h =
+    let more = digits_grow value bytes in
+    let large : nat_le (digits_value_after 10 value bytes) 9223372036854775808 ≡ false = lt-leb (digits_value_after 10 value bytes) 9223372036854775808 (omega arith) in
+    rw (and_right (list_all is_ascii_digit bytes) (nat_le (digits_value_after 10 value bytes) 9223372036854775808) large) refl
+
+-- the number at the end of the digits
+pub number_after-end : (value : ℕ) → value ≤ 9223372036854775808 → number_after value [] ≡ Some value
+number_after-end value h = let small : nat_le value 9223372036854775808 ≡ true = le-leb value 9223372036854775808 h in rw small refl
+
+-- what stands in front of what stands in front
+pub grown-grown : (front more : List ℕ) (m n : ℕ) (o : Option (List ℕ × ℕ)) → grown front m (grown more n o) ≡ grown (front ++ more) (m + n) o
+grown-grown front more m n None = refl
+grown-grown front more m n (Some (text, size)) = let a : m + (n + size) ≡ m + n + size = omega arith in rw (a, append_assoc front more text) refl
+
+-- nothing in front
+pub grown-none : (o : Option (List ℕ × ℕ)) → grown [] 0 o ≡ o
+grown-none None = refl
+grown-none (Some (text, size)) = let a : 0 + size ≡ size = omega arith in rw a refl
+
+-- a byte of a text that is no quote, behind none
+pub text_of-byte : (b : ℕ) (bytes : List ℕ) → (b == 39) ≡ false → text_of false (b ∷ bytes) ≡ grown (b ∷ []) 1 (text_of false bytes)
+text_of-byte b bytes e = rw e refl
+
+-- a first quote
+pub text_of-quote : (b : ℕ) (bytes : List ℕ) → (b == 39) ≡ true → text_of false (b ∷ bytes) ≡ grown [] 1 (text_of true bytes)
+text_of-quote b bytes e = rw e refl
+
+-- a second quote
+pub text_of-doubled : (b : ℕ) (bytes : List ℕ) → (b == 39) ≡ true → text_of true (b ∷ bytes) ≡ grown (39 ∷ []) 1 (text_of false bytes)
+text_of-doubled b bytes e = rw e refl
+
+-- the end behind a quote
+pub text_of-closed : (b : ℕ) (bytes : List ℕ) → (b == 39) ≡ false → text_of true (b ∷ bytes) ≡ Some ([], 0)
+text_of-closed b bytes e = rw e refl
+
+-- what a text's bytes are
+pub utf8_test : (text : List ℕ) → IsUtf8 text → is_utf8 text ≡ true
+utf8_test text h = is_utf8-from_IsUtf8 text h
+
+-- and what they are where they are no text
+pub utf8_test_fails : (text : List ℕ) → (IsUtf8 text → ⊥) → is_utf8 text ≡ false
+utf8_test_fails text h = false_from_ne_true (is_utf8 text) (λ t. h (IsUtf8-from_is_utf8 text t))
+
+-- a word may be a name
+name_byte : (b : ℕ) → is_word_byte b ≡ true → is_name_byte b ≡ true
+name_byte b h = grind (arith, nat_tests)
+
+-- and so may all of them
+name_bytes : (bytes : List ℕ) → list_all is_word_byte bytes ≡ true → list_all is_name_byte bytes ≡ true
+name_bytes [] h = refl
+name_bytes (b ∷ bytes) h =
+    let both = and_parts (is_word_byte b) (list_all is_word_byte bytes) h in
+    and_from _ _ (name_byte b both.0) (name_bytes bytes both.1)
+
+-- a word byte is ASCII
+ascii_byte : (b : ℕ) → is_word_byte b ≡ true → b < 128
+ascii_byte b h = grind (arith, nat_tests)
+
+-- so are all bytes of a word
+ascii_bytes : (bytes : List ℕ) → list_all is_word_byte bytes ≡ true → (i : ℕ) → get_or bytes i 0 < 128
+ascii_bytes [] h i = omega arith
+ascii_bytes (b ∷ bytes) h zero = ascii_byte b (and_parts (is_word_byte b) (list_all is_word_byte bytes) h).0
+ascii_bytes (b ∷ bytes) h (suc i) = ascii_bytes bytes (and_parts (is_word_byte b) (list_all is_word_byte bytes) h).1 i
+
+-- a word may be a name
+pub word_name : (bytes : List ℕ) → is_word bytes ≡ true → is_name bytes ≡ true
+word_name [] h = h
+word_name (b ∷ bytes) h =
+    let run = b ∷ bytes in
+    let all = and_parts (begins_word b) (list_all is_word_byte run && nat_le (length run) 63) h in
+    let rest = and_parts (list_all is_word_byte run) (nat_le (length run) 63) all.1 in
+    let one : nat_le 1 (length run) ≡ true = le-leb 1 (length run) (omega arith) in
+    and_from _ _ one (and_from _ _ rest.1 (and_from _ _ (name_bytes run rest.0) (is_utf8-from_IsUtf8 run (IsUtf8-from_ascii run (ascii_bytes run rest.0)))))
+
+-- the steps of the loop over digits
+pub ruleset number_steps = (number_of-start, number_of-none, number_after-digit, number_after-other, number_after-large, number_after-end, drop_more)
+
+-- no token stands where no byte does
+pub token_at-empty : (bytes : List ℕ) → length bytes ≡ 0 → token_at bytes ≡ None
+unfolding token_at mark_token
+token_at-empty [] e = refl
+token_at-empty (b ∷ bytes) e = absurd (omega arith)
+
+-- at the end of the bytes
+pub ruleset at_end = (token_at-empty)
+
+-- nor does an item
+pub item_at-empty : item_at [] ≡ None
+unfolding item_at
+item_at-empty = rw (token_at-empty [] refl) refl
+
+-- a byte of a text more
+pub at_byte : (front bytes : List ℕ) (i : ℕ) → i < length bytes → get_or bytes i 0 ≢ 39
+    → grown front i (text_of false (drop i bytes)) ≡ grown (front ++ get_or bytes i 0 ∷ []) (i + 1) (text_of false (drop (i + 1) bytes))
+at_byte front bytes i within ne =
+    let e : (get_or bytes i 0 == 39) ≡ false = ne_eqb (get_or bytes i 0) 39 ne in
+    rw (drop_more bytes i 0 within, text_of-byte (get_or bytes i 0) (drop (i + 1) bytes) e) (grown-grown front (get_or bytes i 0 ∷ []) i 1 (text_of false (drop (i + 1) bytes)))
+
+-- a first quote more
+pub at_quote : (front bytes : List ℕ) (i : ℕ) → i < length bytes → get_or bytes i 0 ≡ 39
+    → grown front i (text_of false (drop i bytes)) ≡ grown front (i + 1) (text_of true (drop (i + 1) bytes))
+at_quote front bytes i within is =
+    let e : (get_or bytes i 0 == 39) ≡ true = eq-eqb (get_or bytes i 0) 39 is in
+    rw (drop_more bytes i 0 within, text_of-quote (get_or bytes i 0) (drop (i + 1) bytes) e)
+    (grown-grown front [] i 1 (text_of true (drop (i + 1) bytes)) ∙ ap (λ (f : List ℕ). grown f (i + 1) (text_of true (drop (i + 1) bytes))) (append-nil front))
+
+-- a second quote more
+pub at_doubled : (front bytes : List ℕ) (i : ℕ) → i < length bytes → get_or bytes i 0 ≡ 39
+    → grown front i (text_of true (drop i bytes)) ≡ grown (front ++ 39 ∷ []) (i + 1) (text_of false (drop (i + 1) bytes))
+at_doubled front bytes i within is =
+    let e : (get_or bytes i 0 == 39) ≡ true = eq-eqb (get_or bytes i 0) 39 is in
+    rw (drop_more bytes i 0 within, text_of-doubled (get_or bytes i 0) (drop (i + 1) bytes) e) (grown-grown front (39 ∷ []) i 1 (text_of false (drop (i + 1) bytes)))
+
+-- the ends of a text
+pub ruleset text_steps = (grown-none, text_of-closed, drop_more, append-nil)
+
+-- the steps of the loop over a text
+pub ruleset text_places = (at_byte, at_quote, at_doubled)
+
+-- tokens in front of tokens in front
+pub joined-joined : (front more : List Token) (r : Result (List Token) LexError) → joined front (joined more r) ≡ joined (front ++ more) r
+joined-joined front more (Err e) = refl
+joined-joined front more (Ok others) = ap Ok (sym (append_assoc front more others))
+
+-- no tokens in front
+pub joined-none : (r : Result (List Token) LexError) → joined [] r ≡ r
+joined-none (Err e) = refl
+joined-none (Ok others) = refl
+
+-- the tokens behind skipped bytes are those of the rest
+pub tokens_behind-drop : (skipped offset : ℕ) (bytes : List ℕ) → tokens_behind skipped offset bytes ≡ tokens_behind 0 (offset + skipped) (drop skipped bytes)
+tokens_behind-drop zero offset bytes = let same : offset + 0 ≡ offset = omega arith in rw same refl
+tokens_behind-drop (suc skipped) offset [] = refl
+tokens_behind-drop (suc skipped) offset (b ∷ bytes) = let same : offset + suc skipped ≡ offset + 1 + skipped = omega arith in rw same (tokens_behind-drop skipped (offset + 1) bytes)
+
+-- an item, and what stands behind it
+pub tokens_behind-item : (offset : ℕ) (bytes : List ℕ) (token : Option TokenKind) (size : ℕ) → item_at bytes ≡ Some (token, size) → 1 ≤ size
+    → tokens_behind 0 offset bytes ≡ joined (given token offset (offset + size)) (tokens_behind 0 (offset + size) (drop size bytes))
+tokens_behind-item offset [] token size h some = absurd (none-some (token, size) (sym item_at-empty ∙ h))
+tokens_behind-item offset (b ∷ bytes) token zero h some = absurd (omega arith)
+tokens_behind-item offset (b ∷ bytes) token (suc size) h some =
+    let minus : suc size - 1 ≡ size = omega arith in
+    let place : offset + 1 + size ≡ offset + suc size = omega arith in
+    rw (h, minus, tokens_behind-drop size (offset + 1) bytes, place) refl
+
+-- no item stands there
+pub tokens_behind-none : (offset : ℕ) (bytes : List ℕ) → (bytes ≡ [] → ⊥) → item_at bytes ≡ None → tokens_behind 0 offset bytes ≡ Err (error.At offset)
+tokens_behind-none offset [] some h = absurd (some refl)
+tokens_behind-none offset (b ∷ bytes) some h = rw h refl
+
+-- the steps of the loop over items
+pub ruleset token_steps = (joined-joined, joined-none, tokens_behind-item, tokens_behind-none)
+
+-- an item more
+pub at_item : (said : Result (List Token) LexError) (tokens more : List Token) (bytes behind : List ℕ) (token : Option TokenKind) (size offset next start end : ℕ)
+    → said ≡ joined tokens (tokens_behind 0 offset bytes) → item_at bytes ≡ Some (token, size) → 1 ≤ size → behind ≡ drop size bytes → next ≡ offset + size
+    → start ≡ offset → end ≡ next → more ≡ tokens ++ given token start end → said ≡ joined more (tokens_behind 0 next behind)
+at_item said tokens more bytes behind token size offset next start end e h some left place here there m =
+    e ∙ rw (m, left, here, there, place, tokens_behind-item offset bytes token size h some) (joined-joined tokens (given token offset (offset + size)) (tokens_behind 0 (offset + size) (drop size bytes)))

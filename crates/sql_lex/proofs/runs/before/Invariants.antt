@@ -1,0 +1,7 @@
+use Rattle.std.proofs.Common.{◌≡◌, ◌+◌, drop}
+use Rattle.std.specs.Prelude.{◌==◌, not}
+use Rattle.std.specs.List.{prefix_len}
+use Rattle.sql_lex.proofs.runs.before.Given as goal
+
+abbrev pub invariant-loop-i : goal.invariant-loop-i
+invariant-loop-i l = prefix_len (λ b. not (b == l.byte)) l.bytes ≡ l.i + prefix_len (λ b. not (b == l.byte)) (drop l.i l.bytes)

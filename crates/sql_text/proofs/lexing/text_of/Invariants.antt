@@ -1,6 +1,0 @@
-use Rattle.std.proofs.Common.{◌≡◌, drop, false}
-use Rattle.sql_text.specs.Lexing.{text_of, grown}
-use Rattle.sql_text.proofs.lexing.text_of.Given as goal
-
-abbrev pub invariant-loop-i : goal.invariant-loop-i
-invariant-loop-i l = text_of false l.bytes ≡ grown l.text.items l.i (text_of l.quoted (drop l.i l.bytes))

@@ -1,0 +1,42 @@
+use Rattle.std.proofs.Common.{refl, ap, ◌∙◌, [], ◌∷◌}
+use Rattle.std.proofs.lemmas.Result.{err_from_is_err_and}
+use Rattle.sql_text.specs.declared.kinds.Kind.TheVariants as k
+use Rattle.sql_text.specs.Kinds.{code}
+use Rattle.sql_text.specs.Grammar.{Part, Tree, token, word, many, opt, line, name, names, None, Left, Right, Both, ◌▸◌, ◌∣◌}
+use Rattle.sql_text.specs.Grammar as g
+use Rattle.sql_text.specs.declared.tree.Alias.{Alias}
+use Rattle.sql_text.specs.Meaning.{named, alone, within}
+use Rattle.sql_text.proofs.Choices.{reads_none}
+use Rattle.sql_text.proofs.Leads.{at_line, at_some, behind, done, fails, fails_first, reads_kind, begun, none_of}
+use Rattle.sql_text.proofs.operands.colref.Goals as goal
+
+abbrev dotted : Part
+dotted = word k.Dot ▸ name
+
+pub returns-in_err-first : goal.returns-in_err-first
+returns-in_err-first c n =
+    let p = err_from_is_err_and c.from_residual.result c.from_residual.ensures.1 in
+    rw (p.1, p.2) (fails_first (at_line g.colref) refl c.args.end c.in_err-first.field-0.0 (c.in_err-first.ensures n))
+
+pub returns-in_err-column-in-Some : goal.returns-in_err-column-in-Some
+returns-in_err-column-in-Some c n =
+    let p = err_from_is_err_and c.from_residual-in_err-column-in-Some.result c.from_residual-in_err-column-in-Some.ensures.1 in
+    let first = c.in_ok-first.ensures n in
+    let dot = c.in-Some.ensures.some in
+    let l = behind (at_some (behind (at_line g.colref) refl first.reads) (begun dot)) refl (reads_kind dot) in
+    rw (p.1, p.2) (fails l c.args.end c.in_err-column-in-Some.field-0.0 (c.in_err-column-in-Some.ensures n))
+
+pub returns-in_ok-column-in-Some : goal.returns-in_ok-column-in-Some
+returns-in_ok-column-in-Some c n =
+    let first = c.in_ok-first.ensures n in
+    let dot = c.in-Some.ensures.some in
+    let column = c.in_ok-column-in-Some.ensures n in
+    let l = behind (at_some (behind (at_line g.colref) refl first.reads) (begun dot)) refl (reads_kind dot) in
+    done l column.tree column.reads
+    (ap (λ (x : Alias). within x (named column.tree)) first.value ∙ ap (λ (x : Alias). within c.in_ok-first.first x) column.value)
+
+pub returns-in-None : goal.returns-in-None
+returns-in-None c n =
+    let first = c.in_ok-first.ensures n in
+    done (behind (at_line g.colref) refl first.reads) (Left None) (reads_none (none_of dotted (code k.Dot ∷ []) refl refl c.in-None.ensures.none))
+    (ap (λ (x : Alias). alone x) first.value)

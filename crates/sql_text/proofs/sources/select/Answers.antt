@@ -1,0 +1,90 @@
+use Rattle.std.proofs.Common.{◌≡◌, refl, ap, ◌∙◌, List, Option}
+use Rattle.std.proofs.lemmas.Result.{err_from_is_err_and}
+use Rattle.sql_text.specs.declared.kinds.Kind.TheVariants as k
+use Rattle.sql_text.specs.Grammar.{Part, Tree, token, word, many, opt, level, line, name, names, types, comparisons, magnitudes, None, Left, Right, Both, In, By, ◌▸◌, ◌∣◌}
+use Rattle.sql_text.specs.Grammar as g
+use Rattle.sql_text.specs.declared.tree.Cond.{Cond}
+use Rattle.sql_text.specs.declared.tree.Items.{Items}
+use Rattle.sql_text.specs.declared.tree.Source.{Source}
+use Rattle.sql_text.specs.Meaning.{select_of, selected, items_of, source_list_of, filter_of}
+use Rattle.sql_text.proofs.Same.{regrouped, ungroup}
+use Rattle.sql_text.proofs.Leads.{at_line, at_same, behind, done, fails, fails_first}
+use Rattle.sql_text.proofs.sources.select.Goals as goal
+
+abbrev more_sources : Part
+more_sources = many (word k.Comma ▸ line g.source)
+
+abbrev filter_part : Part
+filter_part = opt (word k.Where ▸ line g.cond)
+
+-- the syntax tree by its parts
+select_is : (a : Tree (word k.Select)) (b : Tree (line g.items)) (f : Tree (word k.From)) (s : Tree (line g.source ▸ more_sources)) (w : Tree filter_part)
+    → select_of (By (Both a (Both b (Both f (ungroup (Both s w)))))) ≡ selected (items_of b) (source_list_of s) (filter_of w)
+select_is a b f (Both first more) w = refl
+
+pub returns-in_err-rest : goal.returns-in_err-rest
+returns-in_err-rest c =
+    let p = err_from_is_err_and c.from_residual.result c.from_residual.ensures.1 in
+    let l0 = at_line g.select in
+    rw (p.1, p.2) (fails_first l0 refl c.args.end c.in_err-rest.field-0.0 (c.in_err-rest.ensures c.args.levels))
+
+pub returns-in_err-items : goal.returns-in_err-items
+returns-in_err-items c =
+    let p = err_from_is_err_and c.from_residual-in_err-items.result c.from_residual-in_err-items.ensures.1 in
+    let l0 = at_line g.select in
+    let keyword = c.in_ok-rest.ensures c.args.levels in
+    let l1 = behind l0 refl keyword.reads in
+    rw (p.1, p.2) (fails_first l1 refl c.args.end c.in_err-items.field-0.0 (c.in_err-items.ensures c.args.levels))
+
+pub returns-in_err-rest-2 : goal.returns-in_err-rest-2
+returns-in_err-rest-2 c =
+    let p = err_from_is_err_and c.from_residual-in_err-rest-2.result c.from_residual-in_err-rest-2.ensures.1 in
+    let l0 = at_line g.select in
+    let keyword = c.in_ok-rest.ensures c.args.levels in
+    let l1 = behind l0 refl keyword.reads in
+    let items = c.in_ok-items.ensures c.args.levels in
+    let l2 = behind l1 refl items.reads in
+    rw (p.1, p.2) (fails_first l2 refl c.args.end c.in_err-rest-2.field-0.0 (c.in_err-rest-2.ensures c.args.levels))
+
+pub returns-in_err-sources : goal.returns-in_err-sources
+returns-in_err-sources c =
+    let p = err_from_is_err_and c.from_residual-in_err-sources.result c.from_residual-in_err-sources.ensures.1 in
+    let l0 = at_line g.select in
+    let keyword = c.in_ok-rest.ensures c.args.levels in
+    let l1 = behind l0 refl keyword.reads in
+    let items = c.in_ok-items.ensures c.args.levels in
+    let l2 = behind l1 refl items.reads in
+    let from_word = c.in_ok-rest-2.ensures c.args.levels in
+    let l3 = at_same (behind l2 refl from_word.reads) (regrouped {a = line g.source} {b = more_sources} {c = filter_part}) refl in
+    rw (p.1, p.2) (fails_first l3 refl c.args.end c.in_err-sources.field-0.0 (c.in_err-sources.ensures))
+
+pub returns-in_err-filter : goal.returns-in_err-filter
+returns-in_err-filter c =
+    let p = err_from_is_err_and c.from_residual-in_err-filter.result c.from_residual-in_err-filter.ensures.1 in
+    let l0 = at_line g.select in
+    let keyword = c.in_ok-rest.ensures c.args.levels in
+    let l1 = behind l0 refl keyword.reads in
+    let items = c.in_ok-items.ensures c.args.levels in
+    let l2 = behind l1 refl items.reads in
+    let from_word = c.in_ok-rest-2.ensures c.args.levels in
+    let l3 = at_same (behind l2 refl from_word.reads) (regrouped {a = line g.source} {b = more_sources} {c = filter_part}) refl in
+    let sources = c.in_ok-sources.ensures in
+    let l4 = behind l3 refl sources.reads in
+    rw (p.1, p.2) (fails l4 c.args.end c.in_err-filter.field-0.0 (c.in_err-filter.ensures))
+
+pub returns : goal.returns
+returns c =
+    let l0 = at_line g.select in
+    let keyword = c.in_ok-rest.ensures c.args.levels in
+    let l1 = behind l0 refl keyword.reads in
+    let items = c.in_ok-items.ensures c.args.levels in
+    let l2 = behind l1 refl items.reads in
+    let from_word = c.in_ok-rest-2.ensures c.args.levels in
+    let l3 = at_same (behind l2 refl from_word.reads) (regrouped {a = line g.source} {b = more_sources} {c = filter_part}) refl in
+    let sources = c.in_ok-sources.ensures in
+    let l4 = behind l3 refl sources.reads in
+    let filter = c.in_ok-filter.ensures in
+    done l4 filter.tree filter.reads (select_is keyword.tree items.tree from_word.tree sources.tree filter.tree
+    ∙ ap (λ (x : Items). selected x (source_list_of sources.tree) (filter_of filter.tree)) items.value
+    ∙ ap (λ (x : List Source). selected c.in_ok-items.items x (filter_of filter.tree)) sources.value
+    ∙ ap (λ (x : Option Cond). selected c.in_ok-items.items c.in_ok-sources.sources x) filter.value)

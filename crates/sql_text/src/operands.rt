@@ -1,0 +1,56 @@
+// Columns and operands.
+ghost use Rattle.std.specs.Prelude.{◌≡◌, ℕ};
+ghost use Rattle.sql_text.specs.Meaning.{colref_of, operand_of};
+ghost use Rattle.sql_text.specs.Reading.{Gives};
+
+use crate::errors::ParseError;
+use crate::kinds::Kind;
+use crate::reading::{after, begins_name, literal, name, place_of};
+use crate::tree::{ColumnName, Expr};
+use sql_lex::Token;
+use std::alloc::Global;
+
+/// A column: `name [ "." name ]`.
+pub fn colref(
+    alloc: Global,
+    tokens: &[Token],
+    end: u32,
+) -> Result<(ColumnName, &[Token]), ParseError>
+    ensures { (n : ℕ) → Gives colref_of (λ found. found.0) (λ found. found.1.now) n tokens.now end result }
+{
+    let (first, rest) = name(alloc, tokens, end)?;
+    match after(rest, Kind::Dot) {
+        Some(rest) => {
+            let (column, rest) = name(alloc, rest, end)?;
+            Ok((
+                ColumnName {
+                    at: first.at,
+                    relation: Some(first.name),
+                    column: column.name,
+                },
+                rest,
+            ))
+        }
+        None => Ok((
+            ColumnName {
+                at: first.at,
+                relation: None,
+                column: first.name,
+            },
+            rest,
+        )),
+    }
+}
+
+/// An operand: a column or a literal.
+pub fn operand(alloc: Global, tokens: &[Token], end: u32) -> Result<(Expr, &[Token]), ParseError>
+    ensures { (n : ℕ) → Gives operand_of (λ found. found.0) (λ found. found.1.now) n tokens.now end result }
+{
+    if begins_name(tokens) {
+        let (column, rest) = colref(alloc, tokens, end)?;
+        return Ok((Expr::Column(column), rest));
+    }
+    let at = place_of(tokens, end);
+    let (value, rest) = literal(alloc, tokens, end)?;
+    Ok((Expr::Literal { at, value }, rest))
+}
