@@ -11,3 +11,4 @@ pub mod Placed
 pub mod Predicates
 pub mod Cuts
 pub mod Whole
+pub mod Formed

@@ -4,3 +4,4 @@ pub mod Grammar
 pub mod Meaning
 pub mod Sentence
 pub mod Reading
+pub mod Formed

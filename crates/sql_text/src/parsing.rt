@@ -3,6 +3,7 @@ ghost use Rattle.std.specs.Prelude.{◌≡◌, ◌⊎◌, ◌++◌, ℕ, IfOk, R
 ghost use Rattle.sql_text.specs.declared.tree.Script.{Script as Tree};
 ghost use Rattle.sql_text.specs.declared.errors.ParseError.{ParseError as Error};
 ghost use Rattle.sql_text.specs.Meaning.{column_of, more_columns_of, column_list_of, create_of, creates_of, script_of};
+ghost use Rattle.sql_text.specs.Formed.{IsWellFormed};
 ghost use Rattle.sql_text.specs.Reading.{Gives};
 ghost use Rattle.sql_text.specs.Sentence.{IsSentence, IsSyntaxError, IsTooDeep, IsReading};
 
@@ -127,6 +128,7 @@ pub fn parse(alloc: Global, tokens: &[Token], end: u32) -> Result<Script, ParseE
     ensures ok { IfOk result (λ script. IsSentence 64 tokens.now script) }
     ensures syntax { (at : ℕ) → result ≡ Err (ParseError.Syntax at) → IsSyntaxError 64 tokens.now end at }
     ensures too_deep { (at : ℕ) → result ≡ Err (ParseError.TooDeep at) → IsTooDeep 64 tokens.now at }
+    ensures well_formed { IfOk result (λ script. IsWellFormed script) }
     ensures only { (said : Result Tree Error) → IsReading 64 tokens.now end said → (result ≡ Err ParseError.Memory) ⊎ (result ≡ said) }
 {
     let (script, rest) = script(alloc, tokens, end, MAX_LEVELS)?;

@@ -4,7 +4,8 @@ use Rattle.std.proofs.lemmas.Bool.Decides.{nat_tests}
 use Rattle.std.proofs.lemmas.Result.{err_from_is_err_and}
 use Rattle.sql_text.specs.declared.errors.ParseError.{ParseError}
 use Rattle.sql_text.specs.declared.tree.Script.{Script}
-use Rattle.sql_text.proofs.Whole.{too_long, only_tree, only_long, only_refused}
+use Rattle.sql_text.proofs.Formed.{formed}
+use Rattle.sql_text.proofs.Whole.{sentence, too_long, only_tree, only_long, only_refused}
 use Rattle.sql_text.proofs.parsing.parse.Goals as goal
 
 some : (n : ℕ) → false ≡ (n == 0) → n ≡ 0 → ⊥
@@ -36,3 +37,7 @@ none n h = grind (arith, nat_tests)
 pub returns-clause-only : goal.returns-clause-only
 returns-clause-only c said r =
     inr (only_tree c.in_ok-script.rest.now c.args.end c.in_ok-script.ensures (none (length c.in_ok-script.rest.now) c.if-not-is_empty.ensures) said r)
+
+pub returns-clause-well_formed : goal.returns-clause-well_formed
+returns-clause-well_formed c =
+    formed {n = 64} {ts = c.args.tokens.now} (sentence c.in_ok-script.rest.now c.in_ok-script.ensures (none (length c.in_ok-script.rest.now) c.if-not-is_empty.ensures))
