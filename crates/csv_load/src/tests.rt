@@ -1,6 +1,7 @@
 use crate::loading::table_within;
 use crate::{LoadError, load};
 use column_table::{ColumnDecl, Decl, Table};
+use rpt_base::limits::MAX_ROWS;
 use rpt_base::{Cell, ColumnType, Listed, Name};
 use std::alloc::Global;
 use std::fmt::Write;
@@ -50,6 +51,25 @@ fn shown(alloc: Global, answer: Result<Table, LoadError>) -> Result<String, Fail
     Ok(out)
 }
 
+// What loading the bytes gives, as text, where at most so many rows may be.
+fn loaded(alloc: Global, limit: u32, bytes: &[u8], decl: &Decl) -> Result<String, Fail> {
+    let columns = decl.columns.as_slice();
+    if columns.len() > 64 || limit > MAX_ROWS {
+        return Err(Fail::from("past the limits"));
+    }
+    shown(alloc, table_within(alloc, limit, columns, bytes))
+}
+
+#[test]
+fn a_declared_table_is_loaded(rt: HostRuntime) -> Result<(), Fail> {
+    let alloc = rt.alloc();
+    let decl = text_and_number(alloc)?;
+    assert!(rt; decl.columns.as_slice().len() <= 64);
+    let got = shown(alloc, load(alloc, b"x,y\n1,a\n2,b\n", &decl))?;
+    assert_eq!(rt; got.as_str(), "a|1|;b|2|;");
+    Ok(())
+}
+
 #[test]
 fn tables_follow_their_files(rt: HostRuntime) -> Result<(), Fail> {
     let alloc = rt.alloc();
@@ -77,7 +97,7 @@ fn tables_follow_their_files(rt: HostRuntime) -> Result<(), Fail> {
         (b"x,y\nz,a\n1\n", "BadField { row: 0, column: 1 }"),
     ];
     for (bytes, want) in cases {
-        let got = shown(alloc, load(alloc, bytes, &decl))?;
+        let got = loaded(alloc, MAX_ROWS, bytes, &decl)?;
         assert_eq!(rt; got.as_str(), want);
     }
     Ok(())
@@ -98,7 +118,7 @@ fn numbers_have_a_sign_or_none_and_digits(rt: HostRuntime) -> Result<(), Fail> {
     for (field, number) in numbers {
         let bytes = format!(in alloc; "x,y\n{field},\n")?;
         let want = format!(in alloc; "|{number}|;")?;
-        let got = shown(alloc, load(alloc, bytes.as_bytes(), &decl))?;
+        let got = loaded(alloc, MAX_ROWS, bytes.as_bytes(), &decl)?;
         assert_eq!(rt; got.as_str(), want.as_str());
     }
     let others = [
@@ -116,7 +136,7 @@ fn numbers_have_a_sign_or_none_and_digits(rt: HostRuntime) -> Result<(), Fail> {
     ];
     for field in others {
         let bytes = format!(in alloc; "x,y\n{field},\n")?;
-        let got = shown(alloc, load(alloc, bytes.as_bytes(), &decl))?;
+        let got = loaded(alloc, MAX_ROWS, bytes.as_bytes(), &decl)?;
         assert_eq!(rt; got.as_str(), "BadField { row: 0, column: 1 }");
     }
     Ok(())
@@ -135,8 +155,7 @@ fn rows_are_counted_to_the_limit(rt: HostRuntime) -> Result<(), Fail> {
         (b"x,y\n1,a\nz\n3,c\n", "Ragged { row: 1 }"),
     ];
     for (bytes, want) in cases {
-        let columns = decl.columns.as_slice();
-        let got = shown(alloc, table_within(alloc, 2, columns, bytes))?;
+        let got = loaded(alloc, 2, bytes, &decl)?;
         assert_eq!(rt; got.as_str(), want);
     }
     Ok(())
