@@ -1,0 +1,3 @@
+pub mod LikeFacts
+pub mod MarkFacts
+pub mod TruthFacts
