@@ -1,22 +1,28 @@
 -- Which refusals a course can end with, and so what a status tells.
-use Rattle.std.proofs.Common.{◌≡◌, ◌∙◌, ◌⊎◌, inl, inr, ℕ, List, Bool, true, false, refl, sym, ap, subst, arith}
-use Rattle.std.specs.Prelude.{MatchResult, Option, Some, None, Result, Ok, Err, nat_lt, length, if◌then◌else◌, ⊤}
+use Rattle.std.proofs.Common.{◌≡◌, ◌∙◌, ◌⊎◌, inl, inr, ℕ, ◌-◌, List, [], ◌∷◌, ◌++◌, Bool, true, false, refl, sym, ap, subst, arith}
+use Rattle.std.specs.Prelude.{MatchResult, Option, Some, None, Result, Ok, Err, nat_lt, length, sum, if◌then◌else◌, ⊤}
 use Rattle.rpt_outside.specs.Causes.{Rose}
 use Rattle.rpt_base.specs.declared.values.Value.{Value}
 use Rattle.csv_load.specs.declared.refusal.LoadError.{LoadError}
 use Rattle.csv_load.specs.declared.refusal.LoadError.TheVariants as load_error
-use Rattle.csv_load.specs.FileTable.{file_table}
+use Rattle.column_table.specs.Table.{Rows}
+use Rattle.column_table.specs.declared.declared.Decl.{Decl}
+use Rattle.csv_load.specs.FileTable.{file_table, kinds_of}
+use Rattle.binder.specs.declared.found.Fault.{Fault}
+use Rattle.binder.specs.Query.{Query}
+use Rattle.binder.specs.Binding.{query_of}
+use Rattle.binder.specs.Faults.{refusal_of as script_refusal}
+use Rattle.binder.specs.Answer.{answer_of, counts_of}
+use Rattle.row_output.specs.OutputText.{output_text}
 use Rattle.rpt_base.specs.declared.limits.TheConstants.{MAX_ROWS}
 use Rattle.sql_text.specs.declared.tree.Script.{Script}
 use Rattle.rpt_cli.specs.declared.refusal.Refusal.{Refusal}
-use Rattle.rpt_cli.specs.declared.refusal.Refusal.TheVariants.{Usage, ReadFault, TooLarge, Lex, Syntax, TooDeep, CannotBind, Header, Ragged, BadField, NotUtf8, TooManyRows, WriteFault, Memory}
-use Rattle.rpt_cli.specs.declared.binding.Query.{Query}
+use Rattle.rpt_cli.specs.declared.refusal.Refusal.TheVariants.{Usage, ReadFault, TooLarge, Lex, Syntax, TooDeep, Bind, Header, Ragged, BadField, NotUtf8, TooManyRows, WriteFault, Memory}
 use Rattle.rpt_cli.specs.declared.words.Command.{Command}
 use Rattle.rpt_cli.specs.Words.{command_of, table_file}
-use Rattle.rpt_cli.specs.Binding.{bound}
 use Rattle.rpt_cli.specs.Scripts.{IsScript}
 use Rattle.rpt_cli.specs.Course.{Answer, Course, Ends, Asks, Reads, Gives, Leads, goes_on}
-use Rattle.rpt_cli.specs.Command.{answer_of, asks_within, command_course, course, course_of, query_course, query_or, script_course, table_or, text_or}
+use Rattle.rpt_cli.specs.Command.{asks_within, command_course, course, course_of, query_course, query_or, read_course, script_course, table_or, tables_course, text_of}
 use Rattle.rpt_cli.specs.Delivery.{Delivers}
 use Rattle.rpt_cli.specs.Message.{status_of}
 use Rattle.rpt_cli.specs.Outcome.{Answers}
@@ -39,28 +45,36 @@ either : (b : Bool) (x y : Course) → EndsOverContents x → EndsOverContents y
 either true x y p q = p
 either false x y p q = q
 
-text-ends : (query : Query) (table : Result (List (List Value)) LoadError) → IsOverContents (text_or query (table_or query.decl table))
-text-ends query (Ok rows) = tt
-text-ends query (Err (load_error.Header column)) = tt
-text-ends query (Err (load_error.Ragged row)) = tt
-text-ends query (Err (load_error.BadField row column)) = tt
-text-ends query (Err (load_error.NotUtf8 row column)) = tt
-text-ends query (Err load_error.TooManyRows) = tt
-text-ends query (Err load_error.Memory) = tt
+text-ends : (query : Query) (tables : List Rows) → IsOverContents (text_of query tables)
+text-ends query tables = by (nat_lt MAX_ROWS (sum (counts_of query tables)))
+  where
+    by : (b : Bool) → IsOverContents (if b then Err TooManyRows else Ok (output_text query tables (answer_of query tables)))
+    by true = tt
+    by false = tt
 
-query-ends : (limit : ℕ) (folder : List ℕ) (query : Query) → EndsOverContents (query_course limit folder query)
-query-ends limit folder query bytes =
-    either (nat_lt limit (length bytes)) (Ends (Err (TooLarge (table_file folder query.decl.name)))) (Ends (answer_of query bytes)) tt
-    (text-ends query (file_table MAX_ROWS query.decl.columns bytes))
+table-ends : (decl : Decl) (table : Result (List (List Value)) LoadError) (next : Rows → Course) → ((t : Rows) → EndsOverContents (next t)) → EndsOverContents (goes_on (table_or decl table) next)
+table-ends decl (Ok rows) next p = p (record { kinds = kinds_of decl.columns; rows = rows })
+table-ends decl (Err (load_error.Header column)) next p = tt
+table-ends decl (Err (load_error.Ragged row)) next p = tt
+table-ends decl (Err (load_error.BadField row column)) next p = tt
+table-ends decl (Err (load_error.NotUtf8 row column)) next p = tt
+table-ends decl (Err load_error.TooManyRows) next p = tt
+table-ends decl (Err load_error.Memory) next p = tt
 
-read-ends : (limit : ℕ) (folder : List ℕ) (query : Option Query) → EndsOverContents (goes_on (query_or query) (query_course limit folder))
-read-ends limit folder None = tt
-read-ends limit folder (Some query) = query-ends limit folder query
+tables-ends : (folder : List ℕ) (query : Query) (room : ℕ) (tables : List Rows) (decls : List Decl) → EndsOverContents (tables_course folder query room tables decls)
+tables-ends folder query room tables [] = text-ends query tables
+tables-ends folder query room tables (decl ∷ decls) = λ bytes.
+    either (nat_lt room (length bytes)) (Ends (Err (TooLarge (table_file folder decl.name)))) _ tt
+    (table-ends decl (file_table MAX_ROWS decl.columns bytes) _ (λ t. tables-ends folder query (room - length bytes) (tables ++ t ∷ []) decls))
+
+read-ends : (limit : ℕ) (folder : List ℕ) (fault : Option Fault) (query : Query) → EndsOverContents (goes_on (query_or fault query) (query_course limit folder))
+read-ends limit folder None query = tables-ends folder query limit [] query.tables
+read-ends limit folder (Some fault) query = tt
 
 command-ends : (limit most : ℕ) (command : Command) → EndsOverContents (asks_within limit command.script (script_course most command.folder))
 command-ends limit most command bytes =
     either (nat_lt limit (length bytes)) (Ends (Err (TooLarge command.script))) (script_course most command.folder bytes) tt
-    (λ script. read-ends most command.folder (bound script))
+    (λ script. read-ends most command.folder (script_refusal script) (query_of script))
 
 -- what is refused as no script is refused for what it is
 script-refusal : (bytes : List ℕ) (e : Refusal) → IsScript bytes (Err e) → IsOverContents (Err e)
@@ -71,7 +85,7 @@ script-refusal bytes (TooLarge name) h = tt
 script-refusal bytes (Lex offset) h = tt
 script-refusal bytes (Syntax offset) h = tt
 script-refusal bytes (TooDeep offset) h = tt
-script-refusal bytes CannotBind h = tt
+script-refusal bytes (Bind kind offset) h = tt
 script-refusal bytes (Header table column) h = tt
 script-refusal bytes (Ragged table row) h = tt
 script-refusal bytes (BadField table row column) h = tt
@@ -115,7 +129,7 @@ status-over (TooLarge name) p = (λ h. omega arith, λ h. omega arith, λ h. ome
 status-over (Lex offset) p = (λ h. omega arith, λ h. omega arith, λ h. omega arith)
 status-over (Syntax offset) p = (λ h. omega arith, λ h. omega arith, λ h. omega arith)
 status-over (TooDeep offset) p = (λ h. omega arith, λ h. omega arith, λ h. omega arith)
-status-over CannotBind p = (λ h. omega arith, λ h. omega arith, λ h. omega arith)
+status-over (Bind kind offset) p = (λ h. omega arith, λ h. omega arith, λ h. omega arith)
 status-over (Header table column) p = (λ h. omega arith, λ h. omega arith, λ h. omega arith)
 status-over (Ragged table row) p = (λ h. omega arith, λ h. omega arith, λ h. omega arith)
 status-over (BadField table row column) p = (λ h. omega arith, λ h. omega arith, λ h. omega arith)

@@ -5,7 +5,7 @@ use Rattle.std.specs.Io.KnownBytes.{Appends}
 use Rattle.rpt_outside.specs.Causes.{Rose, Tells}
 use Rattle.sql_text.specs.declared.tree.Script.{Script}
 use Rattle.rpt_cli.specs.declared.refusal.Refusal.{Refusal}
-use Rattle.rpt_cli.specs.declared.refusal.Refusal.TheVariants.{Usage, ReadFault, TooLarge, Lex, Syntax, TooDeep, CannotBind, Header, Ragged, BadField, NotUtf8, TooManyRows, WriteFault, Memory}
+use Rattle.rpt_cli.specs.declared.refusal.Refusal.TheVariants.{Usage, ReadFault, TooLarge, Lex, Syntax, TooDeep, Bind, Header, Ragged, BadField, NotUtf8, TooManyRows, WriteFault, Memory}
 use Rattle.rpt_cli.specs.Course.{Answer, Course, Ends, Asks, Reads, Leads, Gives, IsOutcome, NoneRose}
 use Rattle.rpt_cli.specs.Message.{status_of}
 use Rattle.rpt_cli.specs.Delivery.{Delivers}
@@ -64,7 +64,7 @@ status_of-positive (TooLarge name) p = omega arith
 status_of-positive (Lex offset) p = omega arith
 status_of-positive (Syntax offset) p = omega arith
 status_of-positive (TooDeep offset) p = omega arith
-status_of-positive CannotBind p = omega arith
+status_of-positive (Bind kind offset) p = omega arith
 status_of-positive (Header table column) p = omega arith
 status_of-positive (Ragged table row) p = omega arith
 status_of-positive (BadField table row column) p = omega arith

@@ -1,16 +1,18 @@
 -- That a script's bytes are read as one thing.
-use Rattle.std.proofs.Common.{◌≡◌, ◌⊎◌, ◌∙◌, inl, inr, ap, sym, subst, List, ℕ, length}
+use Rattle.std.proofs.Common.{◌≡◌, ◌⊎◌, ◌∙◌, inl, inr, ◌≤◌, ap, sym, subst, List, [], ◌∷◌, ℕ, length, arith}
 use Rattle.std.specs.Prelude.{Result, Ok, Err}
 use Rattle.sql_lex.specs.declared.tokens.Token.{Token}
 use Rattle.sql_lex.specs.declared.tokens.LexError.{LexError}
 use Rattle.sql_lex.specs.declared.tokens.LexError.TheVariants as lex_error
 use Rattle.sql_lex.specs.Tokens.{IsBadAt, IsTokenList}
 use Rattle.sql_text.specs.declared.tree.Script.{Script}
+use Rattle.sql_text.specs.declared.tree.Source.{Source}
+use Rattle.sql_text.specs.Formed.{IsFrom}
 use Rattle.sql_text.specs.declared.errors.ParseError.{ParseError}
 use Rattle.sql_text.specs.declared.errors.ParseError.TheVariants as parse_error
 use Rattle.sql_text.specs.Sentence.{IsReading, IsSentence, IsSyntaxError, IsTooDeep}
 use Rattle.rpt_cli.specs.declared.refusal.Refusal.{Refusal}
-use Rattle.rpt_cli.specs.declared.refusal.Refusal.TheVariants.{Usage, ReadFault, TooLarge, Lex, Syntax, TooDeep, CannotBind, Header, Ragged, BadField, NotUtf8, TooManyRows, WriteFault, Memory}
+use Rattle.rpt_cli.specs.declared.refusal.Refusal.TheVariants.{Usage, ReadFault, TooLarge, Lex, Syntax, TooDeep, Bind, Header, Ragged, BadField, NotUtf8, TooManyRows, WriteFault, Memory}
 use Rattle.rpt_cli.specs.Scripts.{IsScript}
 
 -- a refusal of a reader as one of the program
@@ -45,7 +47,7 @@ read-only bytes tokens found same good only (Err (TooDeep at)) (others, lists, i
 read-only bytes tokens found same good only (Err Usage) h = absurd h
 read-only bytes tokens found same good only (Err (ReadFault name)) h = absurd h
 read-only bytes tokens found same good only (Err (TooLarge name)) h = absurd h
-read-only bytes tokens found same good only (Err CannotBind) h = absurd h
+read-only bytes tokens found same good only (Err (Bind kind at)) h = absurd h
 read-only bytes tokens found same good only (Err (Header table column)) h = absurd h
 read-only bytes tokens found same good only (Err (Ragged table row)) h = absurd h
 read-only bytes tokens found same good only (Err (BadField table row column)) h = absurd h
@@ -64,7 +66,7 @@ bad-only bytes offset none same (Err (TooDeep at)) (tokens, lists, is) = absurd 
 bad-only bytes offset none same (Err Usage) h = absurd h
 bad-only bytes offset none same (Err (ReadFault name)) h = absurd h
 bad-only bytes offset none same (Err (TooLarge name)) h = absurd h
-bad-only bytes offset none same (Err CannotBind) h = absurd h
+bad-only bytes offset none same (Err (Bind kind at)) h = absurd h
 bad-only bytes offset none same (Err (Header table column)) h = absurd h
 bad-only bytes offset none same (Err (Ragged table row)) h = absurd h
 bad-only bytes offset none same (Err (BadField table row column)) h = absurd h
@@ -91,3 +93,8 @@ bad-only-as bytes e offset is none same said h = bad-only bytes offset (λ token
     by : (other : ℕ) → (e ≡ lex_error.Memory) ⊎ (e ≡ lex_error.At other) → offset ≡ other
     by other (inl m) = cc
     by other (inr a) = let same : lex_error.At offset ≡ lex_error.At other = sym is ∙ a in cc
+
+-- a script that is well formed has a source
+pub some-source : (sources : List Source) → IsFrom sources → 1 ≤ length sources
+some-source [] h = absurd h
+some-source (first ∷ more) h = omega arith

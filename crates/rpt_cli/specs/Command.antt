@@ -1,5 +1,5 @@
 -- The course of a command: what it asks for and what it answers, in the order of refusals.
-use Rattle.std.specs.Prelude.{ℕ, List, [], Result, Ok, Err, Option, None, Some, nat_lt, length, slice_get, if◌then◌else◌}
+use Rattle.std.specs.Prelude.{ℕ, ◌-◌, ◌∷◌, ◌++◌, sum, List, [], Result, Ok, Err, Option, None, Some, nat_lt, length, slice_get, if◌then◌else◌}
 use Rattle.std.specs.Option.{option_map_or}
 use Rattle.column_table.specs.declared.declared.ColumnDecl.{ColumnDecl}
 use Rattle.column_table.specs.declared.declared.Decl.{Decl}
@@ -7,25 +7,29 @@ use Rattle.rpt_base.specs.declared.limits.TheConstants.{MAX_SCRIPT_BYTES, MAX_TA
 use Rattle.rpt_base.specs.declared.values.Value.{Value}
 use Rattle.csv_load.specs.declared.refusal.LoadError.{LoadError}
 use Rattle.csv_load.specs.declared.refusal.LoadError.TheVariants as load_error
-use Rattle.csv_load.specs.FileTable.{file_table}
+use Rattle.csv_load.specs.FileTable.{file_table, kinds_of}
+use Rattle.column_table.specs.Table.{Rows}
+use Rattle.binder.specs.declared.found.Fault.{Fault}
+use Rattle.binder.specs.Query.{Query}
+use Rattle.binder.specs.Binding.{query_of}
+use Rattle.binder.specs.Faults.{refusal_of as script_refusal}
+use Rattle.binder.specs.Answer.{answer_of, counts_of}
+use Rattle.row_output.specs.OutputText.{output_text}
 use Rattle.sql_text.specs.declared.tree.Script.{Script}
 use Rattle.rpt_cli.specs.declared.refusal.Refusal.{Refusal}
-use Rattle.rpt_cli.specs.declared.refusal.Refusal.TheVariants.{Usage, TooLarge, CannotBind, Header, Ragged, BadField, NotUtf8, TooManyRows, Memory}
-use Rattle.rpt_cli.specs.declared.binding.Query.{Query}
+use Rattle.rpt_cli.specs.declared.refusal.Refusal.TheVariants.{Usage, TooLarge, Bind, Header, Ragged, BadField, NotUtf8, TooManyRows, Memory}
 use Rattle.rpt_cli.specs.declared.words.Command.{Command}
 use Rattle.rpt_cli.specs.Words.{command_of, table_file}
-use Rattle.rpt_cli.specs.Binding.{bound}
-use Rattle.rpt_cli.specs.Answer.{output_text}
 use Rattle.rpt_cli.specs.Course.{Answer, Course, Ends, Asks, Reads, goes_on}
 
 -- a file is asked for, whose contents have at most so many bytes
 abbrev pub asks_within : ℕ → List ℕ → (List ℕ → Course) → Course
 asks_within limit name next = Asks name (λ bytes. if nat_lt limit (length bytes) then Ends (Err (TooLarge name)) else next bytes)
 
--- the bound query of a script, or why there is none
-abbrev pub query_or : Option Query → Result Query Refusal
-query_or None = Err CannotBind
-query_or (Some query) = Ok query
+-- the bound query of a script, or its first refusal
+abbrev pub query_or : Option Fault → Query → Result Query Refusal
+query_or None query = Ok query
+query_or (Some fault) query = Err (Bind fault.kind fault.at)
 
 -- the name of a declared column; none where there is no column of this number
 abbrev pub name_at : List ColumnDecl → ℕ → List ℕ
@@ -40,31 +44,34 @@ refusal_of decl (load_error.NotUtf8 row column) = NotUtf8 decl.name row (name_at
 refusal_of decl load_error.TooManyRows = TooManyRows
 refusal_of decl load_error.Memory = Memory
 
--- the rows of a table, or its refusal
-abbrev pub table_or : Decl → Result (List (List Value)) LoadError → Result (List (List Value)) Refusal
-table_or decl (Ok rows) = Ok rows
+-- a table with these rows, or its refusal
+abbrev pub table_or : Decl → Result (List (List Value)) LoadError → Result Rows Refusal
+table_or decl (Ok rows) = Ok (record { kinds = kinds_of decl.columns; rows = rows })
 table_or decl (Err e) = Err (refusal_of decl e)
 
--- the query's table from the bytes of its file, or why there is none
-abbrev pub table_of : Query → List ℕ → Result (List (List Value)) Refusal
-table_of query bytes = table_or query.decl (file_table MAX_ROWS query.decl.columns bytes)
+-- a table from the bytes of its file, or why there is none
+abbrev pub table_of : Decl → List ℕ → Result Rows Refusal
+table_of decl bytes = table_or decl (file_table MAX_ROWS decl.columns bytes)
 
--- the answer's text over the bytes of the table's file, or why there is none
-abbrev pub text_or : Query → Result (List (List Value)) Refusal → Answer
-text_or query (Ok table) = Ok (output_text query table)
-text_or query (Err e) = Err e
+-- the text of the answer, where the relations' rows are within the limit together
+abbrev pub text_of : Query → List Rows → Answer
+text_of query tables = if nat_lt MAX_ROWS (sum (counts_of query tables)) then Err TooManyRows else Ok (output_text query tables (answer_of query tables))
 
-abbrev pub answer_of : Query → List ℕ → Answer
-answer_of query bytes = text_or query (table_of query bytes)
+-- the tables' files are asked for one after the other, in the order of first use, with at most so many bytes together, and the
+-- query is answered over the tables
+abbrev pub tables_course : List ℕ → Query → ℕ → List Rows → List Decl → Course
+tables_course folder query room tables [] = Ends (text_of query tables)
+tables_course folder query room tables (decl ∷ decls) =
+    asks_within room (table_file folder decl.name) (λ bytes. goes_on (table_of decl bytes) (λ table.
+    tables_course folder query (room - length bytes) (tables ++ table ∷ []) decls))
 
--- the table's file is asked for, and the query answered over its table
+-- a query over its tables
 abbrev pub query_course : ℕ → List ℕ → Query → Course
-query_course limit folder query =
-    asks_within limit (table_file folder query.decl.name) (λ bytes. Ends (answer_of query bytes))
+query_course limit folder query = tables_course folder query limit [] query.tables
 
 -- what a script leads to
 abbrev pub read_course : ℕ → List ℕ → Script → Course
-read_course limit folder script = goes_on (query_or (bound script)) (query_course limit folder)
+read_course limit folder script = goes_on (query_or (script_refusal script) (query_of script)) (query_course limit folder)
 
 -- what a script's bytes lead to
 abbrev pub script_course : ℕ → List ℕ → List ℕ → Course

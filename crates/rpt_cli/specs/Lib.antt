@@ -1,10 +1,6 @@
 pub mod Words
 pub mod Scripts
 pub mod Course
-pub mod Small
-pub mod Binding
-pub mod Answer
-pub mod Writing
 pub mod Command
 pub mod Message
 pub mod Delivery

@@ -1,10 +1,13 @@
 -- What the parts of the top call give.
 use Rattle.std.specs.Prelude.{◌≡◌, ◌⊎◌, ℕ, ◌<◌, ◌≤◌, List, length, Result, Ok, Err, Option, Some, None}
-use Rattle.rpt_base.specs.declared.values.Value.{Value}
-use Rattle.column_table.specs.Table.{Rows}
 use Rattle.sql_text.specs.declared.tree.Script.{Script}
 use Rattle.rpt_cli.specs.Scripts.{IsScript}
+use Rattle.column_table.specs.Table.{Rows}
+use Rattle.column_table.specs.declared.declared.Decl.{Decl}
 use Rattle.rpt_outside.specs.Causes.{Rose, Tells}
+use Rattle.rpt_cli.specs.Words.{table_file}
+use Rattle.rpt_cli.specs.Course.{Course, Gives, goes_on}
+use Rattle.rpt_cli.specs.Command.{asks_within, table_of}
 use Rattle.rpt_cli.specs.declared.refusal.Refusal.{Refusal}
 use Rattle.rpt_cli.specs.declared.refusal.Refusal.TheVariants.{ReadFault, TooLarge, Memory}
 use Rattle.rpt_cli.specs.declared.words.Command.{Command}
@@ -39,7 +42,11 @@ abbrev pub SaysScript : List ℕ → Result Script Refusal → Type 0
 SaysScript bytes (Ok script) = IsScript bytes (Ok script)
 SaysScript bytes (Err e) = (e ≡ Memory) ⊎ IsScript bytes (Err e)
 
--- the rows that are answered
-abbrev pub rows_said : Result Rows Refusal → Result (List (List Value)) Refusal
-rows_said (Ok table) = Ok table.rows
-rows_said (Err e) = Err e
+-- the table is that of a file's contents, which are told and of this size, within the room
+abbrev pub IsNext : Option (List ℕ) → ℕ → Decl → Rows → ℕ → Type 0
+IsNext told room decl table size = (bytes : List ℕ) × Tells told bytes × (length bytes ≤ room) × (table_of decl bytes ≡ Ok table) × (size ≡ length bytes)
+
+-- the next table is refused so, whatever came after it
+abbrev pub Refuses : (List ℕ → Option (List ℕ)) → (List ℕ → ℕ) → (List ℕ → ℕ) → ℕ → List ℕ → Decl → Refusal → Type 0
+Refuses told before now room folder decl e =
+    (next : List ℕ → Rows → Course) → Gives told before now (asks_within room (table_file folder decl.name) (λ bytes. goes_on (table_of decl bytes) (next bytes))) (Err e)

@@ -43,7 +43,7 @@ fn status(refusal: &Refusal) -> u8
         Refusal::ReadFault { .. } => 3,
         Refusal::WriteFault => 4,
         Refusal::Lex { .. } | Refusal::Syntax { .. } | Refusal::TooDeep { .. } => 5,
-        Refusal::CannotBind => 6,
+        Refusal::Bind { .. } => 6,
         Refusal::Header { .. }
         | Refusal::Ragged { .. }
         | Refusal::BadField { .. }

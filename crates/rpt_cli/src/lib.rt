@@ -5,15 +5,13 @@
 //! of the definitions in `specs/`, and every other status has its cause there.
 #![tactic(auto)]
 
-mod answer;
-mod binding;
 mod deliver;
 mod fetch;
 mod follow;
 mod message;
 mod refusal;
 mod script;
-mod small;
+mod tables;
 mod top;
 mod words;
 
@@ -22,5 +20,7 @@ pub use refusal::Refusal;
 pub use top::run_command;
 pub use words::{Command, WordsError, read_words};
 
+#[cfg(test)]
+mod join_tests;
 #[cfg(test)]
 mod tests;

@@ -2,11 +2,12 @@
 ghost use Rattle.std.specs.Prelude.{◌≡◌, ◌<◌, ◌++◌, codes};
 ghost use Rattle.std.specs.Fmt.{decimal};
 ghost use Rattle.rpt_outside.specs.Causes.{Puts};
-ghost use Rattle.rpt_cli.specs.Message.{line_end, line_of, part_text, parts_text};
-ghost use Rattle.rpt_cli.specs.declared.refusal.Refusal.TheVariants.{Header, Ragged};
+ghost use Rattle.rpt_cli.specs.Message.{line_end, line_of, text_of as bind_text, part_text, parts_text};
+ghost use Rattle.rpt_cli.specs.declared.refusal.Refusal.TheVariants.{Bind, Header, Ragged};
 
 use crate::refusal::Refusal;
 use Part::{Number, Text};
+use binder::BindKind;
 use itoa::Buffer;
 use rpt_base::Str;
 use rpt_outside::{Failed, Sink};
@@ -46,7 +47,7 @@ fn parts(refusal: &Refusal) -> [Part<'_>; 7]
         Refusal::Lex { offset } => placed(b"rpt: bad token at ", *offset),
         Refusal::Syntax { offset } => placed(b"rpt: syntax error at ", *offset),
         Refusal::TooDeep { offset } => placed(b"rpt: nested too deep at ", *offset),
-        Refusal::CannotBind => plain(b"rpt: cannot bind"),
+        Refusal::Bind { kind, offset } => unbound(*kind, *offset),
         Refusal::Header { table, column } => headed(table, column),
         Refusal::Ragged { table, row } => ragged(table, *row),
         Refusal::BadField { table, row, column } => field(
@@ -83,6 +84,39 @@ fn placed(head: &[u8], offset: u32) -> [Part<'_>; 7]
     ensures { parts_text result ≡ head.now ++ (decimal offset ++ line_end) }
 {
     [Text(head), Number(offset), END, NONE, NONE, NONE, NONE]
+}
+
+fn unbound<'a>(kind: BindKind, offset: u32) -> [Part<'a>; 7]
+    ensures { parts_text result ≡ line_of (Bind kind offset) }
+{
+    [
+        Text(RPT),
+        Text(text_of(kind)),
+        Text(b" at "),
+        Number(offset),
+        END,
+        NONE,
+        NONE,
+    ]
+}
+
+// Why a script isn't bound.
+fn text_of<'a>(kind: BindKind) -> &'a [u8]
+    ensures { result.now ≡ bind_text kind }
+{
+    match kind {
+        BindKind::BadTableName => b"bad table name",
+        BindKind::DuplicateTable => b"duplicate table",
+        BindKind::TooManyColumns => b"too many columns",
+        BindKind::DuplicateColumn => b"duplicate column",
+        BindKind::UnknownTable => b"unknown table",
+        BindKind::DuplicateAlias => b"duplicate relation",
+        BindKind::TooManyRelations => b"too many relations",
+        BindKind::UnknownColumn => b"unknown column",
+        BindKind::Ambiguous => b"ambiguous column",
+        BindKind::TypeMismatch => b"type mismatch",
+        BindKind::NotEquiJoin => b"not an equality join",
+    }
 }
 
 fn headed<'a>(table: &'a Str, column: &'a Str) -> [Part<'a>; 7]

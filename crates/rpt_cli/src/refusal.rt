@@ -1,4 +1,5 @@
 // Why there is no text.
+use binder::BindKind;
 use rpt_base::Str;
 
 /// Why a command has no answer. Each has a status and a line of its own. Offsets are in bytes and rows are counted, both from
@@ -17,8 +18,8 @@ pub enum Refusal {
     Syntax { offset: u32 },
     /// The token at this offset opens a 65th level inside of 64 open ones.
     TooDeep { offset: u32 },
-    /// The script's names or types don't fit together.
-    CannotBind,
+    /// The script isn't bound, for what stands at this offset.
+    Bind { kind: BindKind, offset: u32 },
     /// This column doesn't stand exactly once in the header of this table's file.
     Header { table: Str, column: Str },
     /// The record of this row has another number of fields than the header.
@@ -27,7 +28,7 @@ pub enum Refusal {
     BadField { table: Str, row: u32, column: Str },
     /// The field in this row and column of texts isn't UTF-8.
     NotUtf8 { table: Str, row: u32, column: Str },
-    /// A table has a row with the number 8,388,608.
+    /// A table has a row with the number 8,388,608, or the relations have more than 8,388,608 rows together.
     TooManyRows,
     /// A put to the output failed.
     WriteFault,

@@ -1,5 +1,5 @@
 // A script from its bytes.
-ghost use Rattle.std.specs.Prelude.{◌≡◌, ◌≤◌, ◌⊎◌, Err, Ok, Result, MatchResult, length};
+ghost use Rattle.std.specs.Prelude.{◌≡◌, ◌≤◌, ◌⊎◌, Err, IfOk, Ok, Result, MatchResult, length};
 ghost use Rattle.rpt_base.specs.declared.limits.TheConstants.{MAX_SCRIPT_BYTES};
 ghost use Rattle.sql_text.specs.declared.tree.Script.{Script as Tree};
 ghost use Rattle.rpt_cli.specs.declared.refusal.Refusal.{Refusal as Why};
@@ -15,6 +15,7 @@ use std::alloc::Global;
 pub(crate) fn read_script(alloc: Global, bytes: &[u8]) -> Result<Script, Refusal>
     requires { length bytes.now ≤ MAX_SCRIPT_BYTES }
     ensures says { SaysScript bytes.now result }
+    ensures sources { IfOk result (λ script. 1 ≤ length script.select.sources) }
     ensures only { (said : Result Tree Why) → IsScript bytes.now said → (result ≡ Err Refusal.Memory) ⊎ (result ≡ said) }
 {
     let tokens = match lex(alloc, bytes) {

@@ -13,10 +13,10 @@ const ROOM: u32 = 1_048_576;
 
 // What a call answered, and what the two sinks took.
 #[derive(Drop)]
-struct Ran {
-    status: u8,
-    out: MemorySink,
-    messages: MemorySink,
+pub(crate) struct Ran {
+    pub(crate) status: u8,
+    pub(crate) out: MemorySink,
+    pub(crate) messages: MemorySink,
 }
 
 fn texts(alloc: Global, words: &[&str]) -> Result<Vec<String>, AllocError> {
@@ -34,7 +34,7 @@ fn files_of(alloc: Global, script: &[u8], table: &[u8], fail: &[u32]) -> Result<
     Ok(MemoryFiles::new(alloc, files, fail.to_vec(alloc)?, 65_536)?)
 }
 
-fn run_over<R: Threads + Sync>(
+pub(crate) fn run_over<R: Threads + Sync>(
     rt: &R,
     alloc: Global,
     words: &[&str],
@@ -59,7 +59,7 @@ fn run_over<R: Threads + Sync>(
     })
 }
 
-fn sink(alloc: Global) -> Result<MemorySink, Fail> {
+pub(crate) fn sink(alloc: Global) -> Result<MemorySink, Fail> {
     Ok(MemorySink::new(alloc, ROOM, Vec::new(alloc))?)
 }
 
@@ -82,13 +82,13 @@ fn run<R: Threads + Sync>(
     )
 }
 
-fn answers(rt: &impl Abort, ran: &Ran, text: &[u8]) {
+pub(crate) fn answers(rt: &impl Abort, ran: &Ran, text: &[u8]) {
     assert_eq!(rt; ran.messages.bytes(), b"".as_slice());
     assert_eq!(rt; ran.out.bytes(), text);
     assert_eq!(rt; ran.status, 0);
 }
 
-fn refuses(rt: &impl Abort, ran: &Ran, status: u8, line: &str) {
+pub(crate) fn refuses(rt: &impl Abort, ran: &Ran, status: u8, line: &str) {
     assert_eq!(rt; ran.messages.bytes(), line.as_bytes());
     assert_eq!(rt; ran.out.bytes(), b"".as_slice());
     assert_eq!(rt; ran.status, status);
@@ -183,23 +183,50 @@ fn bad_tokens_are_refused_at_their_place(rt: HostRuntime) -> Result<(), Fail> {
 
 #[test]
 fn scripts_that_do_not_bind_are_refused(rt: HostRuntime) -> Result<(), Fail> {
-    let scripts = [
-        "CREATE TABLE t (x INT); SELECT * FROM t",
-        "CREATE TABLE t (x INT); SELECT t.x FROM t, t u",
-        "SELECT x FROM t",
-        "CREATE TABLE t (x INT); SELECT x FROM s",
-        "CREATE TABLE t (x INT, X TEXT); SELECT x FROM t",
-        "CREATE TABLE t (x INT); SELECT y FROM t",
-        "CREATE TABLE t (x INT); SELECT x FROM t WHERE y = 1",
-        "CREATE TABLE t (x INT); SELECT x FROM t WHERE x = 'a'",
-        "CREATE TABLE t (y TEXT); SELECT y FROM t WHERE y = 1",
+    let cases = [
+        (
+            "CREATE TABLE t (x INT, y TEXT); SELECT z FROM t",
+            "rpt: unknown column at 39\n",
+        ),
+        (
+            "CREATE TABLE t (x INT, y TEXT); SELECT x FROM s",
+            "rpt: unknown table at 46\n",
+        ),
+        (
+            "CREATE TABLE t (x INT, y TEXT); SELECT x FROM t WHERE y = 1",
+            "rpt: type mismatch at 54\n",
+        ),
+        (
+            "CREATE TABLE t (x INT, y TEXT); SELECT a.x FROM t a, t b WHERE a.x < b.x",
+            "rpt: not an equality join at 63\n",
+        ),
+        (
+            "CREATE TABLE t (x INT, y TEXT); SELECT x FROM t a, t a",
+            "rpt: duplicate relation at 53\n",
+        ),
+        (
+            "CREATE TABLE t (x INT, x INT); SELECT x FROM t",
+            "rpt: duplicate column at 23\n",
+        ),
+        (
+            "CREATE TABLE t (x INT); CREATE TABLE t (x INT); SELECT x FROM t",
+            "rpt: duplicate table at 37\n",
+        ),
+        (
+            "CREATE TABLE \"a/b\" (x INT); SELECT x FROM \"a/b\"",
+            "rpt: bad table name at 13\n",
+        ),
+        (
+            "CREATE TABLE t (x INT); SELECT x FROM t a, t b WHERE a.x = b.x",
+            "rpt: ambiguous column at 31\n",
+        ),
     ];
-    for script in scripts {
+    for (script, line) in cases {
         refuses(
             &rt,
             &run(&rt, rt.alloc(), script.as_bytes(), TABLE, &[])?,
             6,
-            "rpt: cannot bind\n",
+            line,
         );
     }
     Ok(())
@@ -226,7 +253,7 @@ fn a_table_has_at_most_64_columns(rt: HostRuntime) -> Result<(), Fail> {
     answers(&rt, &ran, b"c0\n");
     let (script, header) = columns(rt.alloc(), 65)?;
     let ran = run(&rt, rt.alloc(), script.as_bytes(), header.as_bytes(), &[])?;
-    refuses(&rt, &ran, 6, "rpt: cannot bind\n");
+    refuses(&rt, &ran, 6, "rpt: too many columns at 518\n");
     Ok(())
 }
 

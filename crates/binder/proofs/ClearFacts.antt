@@ -1,0 +1,85 @@
+-- What a script without refusals is free of.
+use Rattle.std.proofs.Common.{◌≡◌, ℕ, Bool, true, false, not, ◌&&◌, List, [], ◌∷◌, ◌++◌, refl, arith}
+use Rattle.std.specs.Prelude.{All, Option, None, Some}
+use Rattle.std.specs.List.{flat_map}
+use Rattle.std.specs.Option.{option_or}
+use Rattle.std.proofs.lemmas.List.Elements.{All-append, All-cons, All-nil, All-tail}
+use Rattle.sql_text.specs.declared.tree.Script.{Script}
+use Rattle.binder.specs.declared.found.Fault.{Fault}
+use Rattle.binder.specs.declared.kinds.BindKind.{BindKind}
+use Rattle.binder.specs.Scope.{IsWithinLimits, scope_of}
+use Rattle.binder.specs.Conjuncts.{conjuncts_of}
+use Rattle.binder.specs.Faults.{conjunct_faults, each_behind, fault_if, item_faults, refusal_of, source_faults, table_faults}
+use Rattle.binder.proofs.FaultFacts.{first_of-none}
+use Rattle.binder.proofs.LimitFacts.{within_limits}
+
+pub front-empty : {X : Type 0} (xs ys : List X) → xs ++ ys ≡ [] → xs ≡ []
+front-empty [] ys h = refl
+front-empty (x ∷ xs) ys h = cc
+
+pub back-empty : {X : Type 0} (xs ys : List X) → xs ++ ys ≡ [] → ys ≡ []
+back-empty [] ys h = h
+back-empty (x ∷ xs) ys h = cc
+
+pub and-left : (a b : Bool) → (a && b) ≡ true → a ≡ true
+and-left true b h = refl
+and-left false b h = cc
+
+pub and-right : (a b : Bool) → (a && b) ≡ true → b ≡ true
+and-right true b h = h
+and-right false b h = cc
+
+pub and-both : (a b : Bool) → a ≡ true → b ≡ true → (a && b) ≡ true
+and-both true b h k = k
+and-both false b h k = cc
+
+pub not-false : (a : Bool) → not a ≡ false → a ≡ true
+not-false true h = refl
+not-false false h = cc
+
+pub not_fault : (holds : Bool) (at : ℕ) (kind : BindKind) → fault_if holds at kind ≡ [] → holds ≡ false
+unfolding fault_if
+not_fault true at kind h = cc
+not_fault false at kind h = refl
+
+-- where nothing comes of a list, nothing comes of a member
+pub each-empty : {X Y : Type 0} (f : X → List Y) (xs : List X) → flat_map f xs ≡ [] → All (λ x. f x ≡ []) xs
+each-empty f [] h = All-nil (λ x. f x ≡ [])
+each-empty f (x ∷ xs) h = All-cons (λ x. f x ≡ []) x xs (front-empty (f x) (flat_map f xs) h) (each-empty f xs (back-empty (f x) (flat_map f xs) h))
+
+-- what holds of all that comes of each member
+pub All-flat_map : {X Y : Type 0} (P : Y → Type 0) (f : X → List Y) (xs : List X) → All (λ x. All P (f x)) xs → All P (flat_map f xs)
+All-flat_map P f [] h = All-nil P
+All-flat_map P f (x ∷ xs) h = All-append P (f x) (flat_map f xs) (h 0 x (omega arith)) (All-flat_map P f xs (All-tail (λ x. All P (f x)) x xs h))
+
+both-none : (a b : Option Fault) → option_or a b ≡ None → (a ≡ None) × (b ≡ None)
+both-none None b h = (refl, h)
+both-none (Some f) b h = cc
+
+-- a script none of whose parts has a refusal
+pub record IsClear (script : Script) : Type 0 where
+  pub tables : each_behind table_faults [] script.tables ≡ []
+  pub sources : each_behind (source_faults script.tables) [] script.select.sources ≡ []
+  pub items : item_faults (scope_of script) script.select.items ≡ []
+  pub conjuncts : flat_map (conjunct_faults (scope_of script)) (conjuncts_of script) ≡ []
+
+pub refusal_of-none : (script : Script) → refusal_of script ≡ None → IsClear script
+unfolding refusal_of
+refusal_of-none script h =
+    let t = both-none _ _ h in
+    let s = both-none _ _ t.1 in
+    let i = both-none _ _ s.1 in
+    let c = both-none _ _ i.1 in
+    record {
+      tables = first_of-none _ t.0;
+      sources = first_of-none _ s.0;
+      items = first_of-none _ i.0;
+      conjuncts = first_of-none _ c.0;
+    }
+
+pub clear-within : (script : Script) → refusal_of script ≡ None → IsWithinLimits script
+unfolding refusal_of
+clear-within script h =
+    let t = both-none _ _ h in
+    let s = both-none _ _ t.1 in
+    within_limits script t.0 s.0

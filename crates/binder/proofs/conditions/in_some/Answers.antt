@@ -1,0 +1,14 @@
+use Rattle.std.proofs.Common.{◌∙◌, refl, ap, sym}
+use Rattle.std.specs.Option.{option_to_list}
+use Rattle.binder.specs.Scope.{scope_of}
+use Rattle.binder.specs.Faults.{first_of}
+use Rattle.binder.proofs.ConjunctFacts.{faults_in-some}
+use Rattle.binder.proofs.conditions.in_some.Goals as goal
+
+pub returns-in-Some : goal.returns-in-Some
+returns-in-Some c =
+    c.in_parts.ensures ∙ rw c.in-Some.is (ap (first_of c.args.found) (sym (faults_in-some (scope_of c.args.script.now) c.in-Some.cond)))
+
+pub returns-in-None : goal.returns-in-None
+unfolding first_of
+returns-in-None c = rw c.in-None.is refl

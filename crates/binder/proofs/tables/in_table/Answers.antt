@@ -1,0 +1,10 @@
+use Rattle.std.proofs.Common.{◌∙◌, sym, ap}
+use Rattle.binder.specs.Faults.{first_of, table_faults}
+use Rattle.binder.proofs.FaultFacts.{first_of-append}
+use Rattle.binder.proofs.tables.in_table.Goals as goal
+
+pub returns : goal.returns
+unfolding table_faults
+returns c =
+    rw (c.in_columns.ensures, c.as_slice.ensures, c.note_if-found-2.ensures, c.note_if-found.ensures, c.is_file_name.ensures, c.has_table.ensures)
+    (sym (first_of-append c.args.found _ _ ∙ first_of-append _ _ _))

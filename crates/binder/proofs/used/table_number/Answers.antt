@@ -1,0 +1,8 @@
+use Rattle.std.proofs.Common.{◌∙◌, sym}
+use Rattle.std.specs.Str.{bytes_eq}
+use Rattle.column_table.specs.declared.declared.Decl.{Decl}
+use Rattle.binder.proofs.UsedFacts.{position-none}
+use Rattle.binder.proofs.used.table_number.Goals as goal
+
+pub returns-in-None : goal.returns-in-None
+returns-in-None c = position-none (λ (t : Decl). bytes_eq t.name c.args.source.now.table) c.args.tables.now (sym c.index_of.ensures.number ∙ c.in-None.is)

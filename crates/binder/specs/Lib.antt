@@ -1,0 +1,6 @@
+pub mod Scope
+pub mod Conjuncts
+pub mod Faults
+pub mod Query
+pub mod Binding
+pub mod Answer

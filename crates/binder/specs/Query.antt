@@ -1,0 +1,56 @@
+-- A bound query.
+use Rattle.std.specs.Prelude.{◌≡◌, ℕ, ◌<◌, ◌≤◌, List, [], length, map, IsTrue, Some, slice_get, slice_index, slice_index_or}
+use Rattle.std.specs.List.{All}
+use Rattle.rpt_base.specs.declared.values.ColumnType.{ColumnType}
+use Rattle.column_table.specs.declared.declared.ColumnDecl.{ColumnDecl}
+use Rattle.column_table.specs.declared.declared.Decl.{Decl}
+use Rattle.predicate.specs.declared.tree.Pred.{Pred}
+use Rattle.predicate.specs.Truth.{is_typed}
+use Rattle.binder.specs.declared.columns.ColumnRef.{ColumnRef}
+use Rattle.binder.specs.declared.columns.Equality.{Equality}
+use Rattle.binder.specs.declared.output.OutColumn.{OutColumn}
+
+-- The relations' names, the different tables by first use and the number of each relation's, the condition of each relation, the
+-- written equalities, and the columns of the output.
+pub record Query : Type 0 where
+  pub aliases : List (List ℕ)
+  pub tables : List Decl
+  pub table_of : List ℕ
+  pub conditions : List Pred
+  pub equalities : List Equality
+  pub output : List OutColumn
+
+-- the types of a table's columns
+abbrev pub types_of : List ColumnDecl → List ColumnType
+types_of columns = map (λ (c : ColumnDecl). c.kind) columns
+
+-- the columns of a relation
+abbrev pub columns_of : Query → ℕ → List ColumnDecl
+columns_of q r = (slice_index_or q.tables (slice_index q.table_of r) (record { name = []; columns = [] })).columns
+
+-- the types of a relation's columns
+abbrev pub kinds_of : Query → ℕ → List ColumnType
+kinds_of q r = types_of (columns_of q r)
+
+-- the column's relation is one of the query's, and the column is one of that relation's
+pub record Names (q : Query) (c : ColumnRef) : Type 0 where
+  pub relation : c.relation < length q.table_of
+  pub column : c.column < length (kinds_of q c.relation)
+
+-- both columns of an equality are columns of the query
+pub record Joins (q : Query) (e : Equality) : Type 0 where
+  pub left : Names q e.left
+  pub right : Names q e.right
+
+-- all of a query's numbers are in range, its conditions are typed, and its parts are within the limits
+pub record IsBound (q : Query) : Type 0 where
+  pub some : 1 ≤ length q.table_of
+  pub few : length q.table_of ≤ 16
+  pub few_tables : length q.tables ≤ 16
+  pub few_columns : All (λ (d : Decl). length d.columns ≤ 64) q.tables
+  pub same : length q.conditions ≡ length q.table_of
+  pub named : length q.aliases ≡ length q.table_of
+  pub within : (r : ℕ) → r < length q.table_of → slice_index q.table_of r < length q.tables
+  pub typed : (r : ℕ) (p : Pred) → slice_get q.conditions r ≡ Some p → IsTrue (is_typed (kinds_of q r) p)
+  pub joined : All (Joins q) q.equalities
+  pub shown : All (λ (c : OutColumn). Names q c.source) q.output

@@ -1,0 +1,60 @@
+// Binding.
+ghost use Rattle.std.specs.Prelude.{◌≡◌, ◌≤◌, IfOk, Err, None, Some, ℕ, length};
+ghost use Rattle.binder.specs.Binding.{query_of};
+ghost use Rattle.binder.specs.Faults.{refusal_of};
+ghost use Rattle.binder.specs.Scope.{IsWithinLimits};
+ghost use Rattle.binder.specs.declared.kinds.BindKind.{BindKind as Kind};
+
+use crate::bound::Bound;
+use crate::kinds::BindError;
+use crate::refusal::first_fault;
+use crate::shown::output;
+use crate::translate::conditions;
+use crate::used::{aliases, table_numbers, tables_of};
+use crate::written::equalities;
+use rpt_base::Memory;
+use sql_text::Script;
+use std::alloc::Global;
+
+/// Binds a script: Ok exactly where no refusal holds of it, and then with what its names mean; or else the first of its
+/// refusals. It selects from one source at least, as each script that is read does.
+pub fn bind(alloc: Global, script: &Script) -> Result<Bound, BindError>
+    requires sources { 1 ≤ length script.now.select.sources }
+    ensures bound { IfOk result (λ b. b ≡ query_of script.now) }
+    ensures none { IfOk result (λ b. refusal_of script.now ≡ None) }
+    ensures refused { (kind : Kind) (at : ℕ) → result ≡ Err (BindError.Refused kind at) → refusal_of script.now ≡ Some (record { at = at; kind = kind }) }
+{
+    if let Some(fault) = first_fault(script) {
+        return Err(BindError::Refused {
+            kind: fault.kind,
+            at: fault.at,
+        });
+    }
+    match bound(alloc, script) {
+        Ok(bound) => Ok(bound),
+        Err(_) => Err(BindError::Memory),
+    }
+}
+
+// What a script that isn't refused is bound to.
+fn bound(alloc: Global, script: &Script) -> Result<Bound, Memory>
+    requires sources { 1 ≤ length script.now.select.sources }
+    requires none { refusal_of script.now ≡ None }
+    requires limits { IsWithinLimits script.now }
+    ensures { IfOk result (λ b. b ≡ query_of script.now) }
+{
+    let aliases = aliases(alloc, script)?;
+    let tables = tables_of(alloc, script)?;
+    let table_of = table_numbers(alloc, script, tables.as_slice())?;
+    let conditions = conditions(alloc, script)?;
+    let equalities = equalities(alloc, script)?;
+    let output = output(alloc, script)?;
+    Ok(Bound {
+        aliases,
+        tables,
+        table_of,
+        conditions,
+        equalities,
+        output,
+    })
+}

@@ -1,0 +1,10 @@
+// Columns of the output.
+use crate::columns::ColumnRef;
+use rpt_base::Name;
+
+/// A column of the output: the column of the query that it shows, and its title.
+#[derive(Debug, Drop)]
+pub struct OutColumn {
+    pub source: ColumnRef,
+    pub title: Name,
+}

@@ -1,0 +1,5 @@
+pub mod LoopFacts
+pub mod RangeFacts
+pub mod TableFacts
+pub mod TextFacts
+pub mod TupleFacts

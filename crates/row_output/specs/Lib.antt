@@ -1,0 +1,4 @@
+pub mod Loops
+pub mod OutputText
+pub mod Tuples
+pub mod Writing
