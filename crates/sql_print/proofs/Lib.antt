@@ -1,0 +1,10 @@
+pub mod Putting
+pub mod CondPieces
+pub mod Lexed
+pub mod Derives
+pub mod Operands
+pub mod Conds
+pub mod Nested
+pub mod Reread
+pub mod ReadBack
+pub mod Levels

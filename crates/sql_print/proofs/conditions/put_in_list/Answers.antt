@@ -1,0 +1,7 @@
+use Rattle.sql_print.proofs.Putting.{then}
+use Rattle.sql_print.proofs.conditions.put_in_list.Goals as goal
+
+pub returns : goal.returns
+returns c =
+    then c.in_ok-put_expr.ensures (then c.in_ok-put_not.ensures (then c.in_ok-put_word.ensures
+    (then c.in_ok-put_mark.ensures (then c.in_ok-put_values.ensures c.in_ok-put_mark-2.ensures))))

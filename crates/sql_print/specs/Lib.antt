@@ -1,0 +1,5 @@
+pub mod Pieces
+pub mod Printed
+pub mod Puts
+pub mod Writes
+pub mod Unplaced
