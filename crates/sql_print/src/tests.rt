@@ -1,3 +1,5 @@
+ghost use Rattle.std.specs.Prelude.{◌<◌};
+
 use crate::{print, read_scripts_print};
 use sql_lex::lex;
 use sql_text::parse;
@@ -89,4 +91,69 @@ fn parentheses_stand_where_they_are_needed(rt: HostRuntime) -> Result<(), Fail> 
             ),
         ],
     )
+}
+
+// A walk over the grammar: a number that says which way is taken where several are open.
+#[derive(Drop)]
+struct Walk {
+    state: u64,
+}
+
+impl Walk {
+    // One of eight ways.
+    fn way(&mut self) -> usize
+        ensures { result < 8 }
+    {
+        self.state = self
+            .state
+            .wrapping_mul(6_364_136_223_846_793_005)
+            .wrapping_add(1_442_695_040_888_963_407);
+        (self.state >> 61) as usize
+    }
+}
+
+const TESTS: [&str; 8] = [
+    "a = 1",
+    "t.b <> 'it''s'",
+    "- 7 >= c",
+    "a BETWEEN b AND -9223372036854775808",
+    "x NOT BETWEEN 1 AND 2",
+    "y IN (1, -2, 'z')",
+    "\"the name\" NOT IN ('')",
+    "d NOT LIKE '%_'",
+];
+
+fn put_cond(walk: &mut Walk, levels: u32, text: &mut String) -> Result<(), Fail> {
+    let way = walk.way();
+    if levels == 0 || way < 2 {
+        text.push_str(TESTS[walk.way()])?;
+        return Ok(());
+    }
+    if way < 4 {
+        text.push_str(if way == 2 { "(" } else { "NOT (" })?;
+        put_cond(walk, levels - 1, text)?;
+        text.push_str(")")?;
+        return Ok(());
+    }
+    put_cond(walk, levels - 1, text)?;
+    text.push_str(if way < 6 { " AND " } else { " OR " })?;
+    put_cond(walk, levels - 1, text)
+}
+
+#[test]
+fn a_walk_over_the_grammar_is_read_back(rt: HostRuntime) -> Result<(), Fail> {
+    let alloc = rt.alloc();
+    for seed in 0..400 {
+        let mut walk = Walk { state: seed };
+        let mut script = String::from_str(
+            alloc,
+            "CREATE TABLE t (a INT); SELECT a, t.b AS z FROM t, u AS v WHERE ",
+        )?;
+        put_cond(&mut walk, 6, &mut script)?;
+        let text = printed(alloc, script.as_str().as_bytes())?;
+        assert!(rt; !text.as_str().is_empty());
+        let again = printed(alloc, text.as_str().as_bytes())?;
+        assert_eq!(rt; again.as_str(), text.as_str());
+    }
+    Ok(())
 }
