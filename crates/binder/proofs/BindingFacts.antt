@@ -1,6 +1,5 @@
 -- A query made of its parts.
 use Rattle.std.proofs.Common.{◌≡◌, ◌∙◌, ℕ, ◌≤◌, List, length, map, refl, sym, ap, subst}
-use Rattle.std.specs.Prelude.{None}
 use Rattle.std.specs.List.{flat_map, range_with_len}
 use Rattle.column_table.specs.declared.declared.Decl.{Decl}
 use Rattle.predicate.specs.declared.tree.Pred.{Pred}
@@ -9,7 +8,6 @@ use Rattle.binder.specs.declared.columns.Equality.{Equality}
 use Rattle.binder.specs.declared.output.OutColumn.{OutColumn}
 use Rattle.binder.specs.Binding.{condition_of, equality_of, output_of, query_of, table_number, tables_of}
 use Rattle.binder.specs.Conjuncts.{conjuncts_of}
-use Rattle.binder.specs.Query.{Query}
 use Rattle.binder.specs.Scope.{IsWithinLimits, name_of, scope_of}
 use Rattle.binder.proofs.BoundFacts.{query_of-few_tables}
 

@@ -1,7 +1,7 @@
 -- The relations of columns that are listed member by member.
-use Rattle.std.proofs.Common.{◌≡◌, ◌∙◌, ◌<◌, ◌≤◌, ◌+◌, ◌&&◌, ℕ, suc, Bool, true, false, List, [], ◌∷◌, ◌++◌, length, drop, get_or, refl, ap, sym, arith, add-one, drop-cons}
-use Rattle.std.specs.Prelude.{◌==◌, Option, None, Some}
-use Rattle.std.specs.List.{flat_map, list_all}
+use Rattle.std.proofs.Common.{◌≡◌, ◌∙◌, ◌<◌, ◌≤◌, ◌+◌, ◌&&◌, ℕ, true, false, List, [], ◌∷◌, ◌++◌, length, drop, get_or, refl, ap, sym, add-one, drop-cons}
+use Rattle.std.specs.Prelude.{◌==◌, None, Some}
+use Rattle.std.specs.List.{flat_map}
 use Rattle.std.proofs.Math.ListN.{drop_of_length-le}
 use Rattle.binder.specs.declared.columns.ColumnRef.{ColumnRef}
 use Rattle.binder.specs.Conjuncts.{are_of, first_relation}

@@ -1,7 +1,7 @@
 -- What a reference means, source by source.
-use Rattle.std.proofs.Common.{◌≡◌, ◌∙◌, ◌<◌, ◌≤◌, ◌+◌, ℕ, zero, suc, Bool, true, false, cond, List, [], ◌∷◌, ◌++◌, length, map, drop, get_or, refl, ap, sym, arith, add-one, drop-cons}
-use Rattle.std.specs.Prelude.{Option, None, Some, Result, Ok, Err, All, slice_get}
-use Rattle.std.specs.List.{enumerate_from, find, flat_map}
+use Rattle.std.proofs.Common.{◌≡◌, ◌∙◌, ◌<◌, ◌≤◌, ◌+◌, ℕ, suc, true, false, cond, List, [], ◌∷◌, ◌++◌, length, map, drop, get_or, refl, ap, sym, arith, add-one, drop-cons}
+use Rattle.std.specs.Prelude.{Option, None, Some, Ok, Err, All, slice_get}
+use Rattle.std.specs.List.{enumerate_from, flat_map}
 use Rattle.std.specs.Option.{is_some, option_map, option_to_list, option_map_or}
 use Rattle.std.specs.Str.{bytes_eq}
 use Rattle.std.proofs.lemmas.Option.{slice_get-map}
@@ -12,7 +12,6 @@ use Rattle.sql_text.specs.declared.tree.CreateTable.{CreateTable}
 use Rattle.sql_text.specs.declared.tree.ColumnName.{ColumnName}
 use Rattle.sql_text.specs.declared.tree.Source.{Source}
 use Rattle.binder.specs.declared.columns.ColumnRef.{ColumnRef}
-use Rattle.binder.specs.declared.kinds.BindKind.{BindKind}
 use Rattle.binder.specs.declared.kinds.BindKind.TheVariants.{UnknownColumn, Ambiguous}
 use Rattle.binder.specs.Scope.{IsWithinLimits, Relation, columns_of, kind_at, kind_under, meaning, meaning_in, meanings, only_meaning, relation_of, scope_of, table_named, type_at}
 

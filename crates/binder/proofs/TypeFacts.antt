@@ -1,6 +1,6 @@
 -- The types of an operand and of values.
-use Rattle.std.proofs.Common.{◌≡◌, ◌∙◌, ◌&&◌, Bool, not, List, [], ◌∷◌, map, refl, ap}
-use Rattle.std.specs.Prelude.{Option, None, Some}
+use Rattle.std.proofs.Common.{◌≡◌, ◌&&◌, not, List, [], ◌∷◌, map, refl, ap}
+use Rattle.std.specs.Prelude.{Some}
 use Rattle.std.specs.List.{list_all}
 use Rattle.rpt_base.specs.Lists.{all_of}
 use Rattle.rpt_base.specs.declared.values.ColumnType.{ColumnType}

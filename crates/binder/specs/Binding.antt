@@ -1,5 +1,5 @@
 -- What a script without refusals is bound to.
-use Rattle.std.specs.Prelude.{ℕ, ◌==◌, ◌&&◌, not, Bool, true, false, List, [], ◌∷◌, ◌++◌, filter, length, map, Option, None, Some, Result, Ok, Err, if◌then◌else◌}
+use Rattle.std.specs.Prelude.{ℕ, ◌==◌, ◌&&◌, not, Bool, true, false, List, [], ◌∷◌, ◌++◌, filter, length, map, Option, None, Some, if◌then◌else◌}
 use Rattle.std.specs.List.{enumerate_from, flat_map, list_any, position_or_len, range_with_len}
 use Rattle.std.specs.Option.{option_map_or, option_to_list}
 use Rattle.std.specs.Str.{bytes_eq}
@@ -30,7 +30,7 @@ use Rattle.binder.specs.declared.columns.ColumnRef.{ColumnRef}
 use Rattle.binder.specs.declared.columns.Equality.{Equality}
 use Rattle.binder.specs.declared.output.OutColumn.{OutColumn}
 use Rattle.binder.specs.Scope.{Relation, columns_of, meaning, name_of, scope_of}
-use Rattle.binder.specs.Conjuncts.{column_of, columns_in, conjuncts_of, first_relation, found, is_equality}
+use Rattle.binder.specs.Conjuncts.{columns_in, conjuncts_of, first_relation, found, is_equality}
 use Rattle.binder.specs.Query.{Query}
 
 -- a declared column

@@ -22,7 +22,7 @@ use Rattle.rpt_cli.specs.declared.words.Command.{Command}
 use Rattle.rpt_cli.specs.Words.{command_of, table_file}
 use Rattle.rpt_cli.specs.Scripts.{IsScript}
 use Rattle.rpt_cli.specs.Course.{Answer, Course, Ends, Asks, Reads, Gives, Leads, goes_on}
-use Rattle.rpt_cli.specs.Command.{asks_within, command_course, course, course_of, query_course, query_or, read_course, script_course, table_or, tables_course, text_of}
+use Rattle.rpt_cli.specs.Command.{asks_within, command_course, course, course_of, query_course, query_or, script_course, table_or, tables_course, text_of}
 use Rattle.rpt_cli.specs.Delivery.{Delivers}
 use Rattle.rpt_cli.specs.Message.{status_of}
 use Rattle.rpt_cli.specs.Outcome.{Answers}

@@ -1,10 +1,10 @@
 -- One table after another.
-use Rattle.std.proofs.Common.{◌≡◌, ◌⊎◌, ◌∙◌, inl, inr, refl, sym, ap, subst, ℕ, suc, ◌+◌, ◌-◌, ◌*◌, ◌<◌, ◌≤◌, List, [], ◌∷◌, ◌++◌, length, map, take, drop, get_or, nat_lt, true, false, arith}
-use Rattle.std.specs.Prelude.{Bool, Option, Some, None, Result, Ok, Err, is_err, is_ok, slice_get, if◌then◌else◌}
+use Rattle.std.proofs.Common.{◌≡◌, ◌∙◌, inl, inr, refl, sym, ap, subst, ℕ, suc, ◌+◌, ◌-◌, ◌<◌, ◌≤◌, List, [], ◌∷◌, ◌++◌, length, map, take, drop, nat_lt, true, false, arith}
+use Rattle.std.specs.Prelude.{Option, Some, Result, Ok, Err, is_err, is_ok, slice_get, if◌then◌else◌}
 use Rattle.std.proofs.lemmas.Bool.{le-leb}
 use Rattle.std.proofs.lemmas.List.{drop_all, drop_more, map-append, take_all, take_more}
 use Rattle.std.proofs.lemmas.Option.{get_or_from_slice_get, slice_get_within}
-use Rattle.rpt_outside.specs.Causes.{NeverFalls, Rose, Tells}
+use Rattle.rpt_outside.specs.Causes.{NeverFalls, Tells}
 use Rattle.rpt_base.specs.declared.values.Value.{Value}
 use Rattle.csv_load.specs.declared.refusal.LoadError.{LoadError}
 use Rattle.csv_load.specs.FileTable.{file_table}
@@ -13,9 +13,8 @@ use Rattle.column_table.specs.declared.declared.Decl.{Decl}
 use Rattle.binder.specs.Query.{Query, types_of}
 use Rattle.binder.specs.Answer.{AreTables}
 use Rattle.rpt_cli.specs.declared.refusal.Refusal.{Refusal}
-use Rattle.rpt_cli.specs.declared.refusal.Refusal.TheVariants.{ReadFault, TooLarge, Memory}
 use Rattle.rpt_cli.specs.Words.{table_file}
-use Rattle.rpt_cli.specs.Course.{Answer, Course, Ends, Gives, Leads, goes_on}
+use Rattle.rpt_cli.specs.Course.{Answer, Course, Ends, Gives, goes_on}
 use Rattle.rpt_cli.specs.Command.{asks_within, query_course, table_of, table_or, tables_course, text_of}
 use Rattle.rpt_cli.specs.Steps.{IsNext, Makes, Misses, Refuses}
 use Rattle.rpt_cli.proofs.Courses.{asks_within-Gives}

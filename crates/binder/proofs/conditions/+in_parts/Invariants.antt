@@ -1,5 +1,4 @@
 use Rattle.std.specs.List.{flat_map}
-use Rattle.sql_text.specs.declared.tree.Cond.{Cond}
 use Rattle.binder.specs.Scope.{scope_of}
 use Rattle.binder.specs.Conjuncts.{parts_of}
 use Rattle.binder.specs.Faults.{conjunct_faults}

@@ -1,5 +1,4 @@
 use Rattle.std.proofs.Common.{◌∙◌, refl, ap, sym}
-use Rattle.std.specs.Option.{option_to_list}
 use Rattle.binder.specs.Scope.{scope_of}
 use Rattle.binder.specs.Faults.{first_of}
 use Rattle.binder.proofs.ConjunctFacts.{faults_in-some}

@@ -1,8 +1,8 @@
-use Rattle.std.proofs.Common.{◌≡◌, ◌∙◌, ◌<◌, List, length, get_or, ap, sym, arith}
+use Rattle.std.proofs.Common.{◌∙◌, ap, sym, arith}
 use Rattle.binder.specs.Scope.{scope_of}
 use Rattle.binder.specs.Conjuncts.{are_of, columns_in}
 use Rattle.binder.proofs.CondFacts.{columns_in-And, columns_in-Or, columns_in-Not, columns_in-Compare, columns_in-Between, columns_in-InList, columns_in-Like}
-use Rattle.binder.proofs.NamedFacts.{IsOfFrom, of_from-more, of_from-other, of_from-end}
+use Rattle.binder.proofs.NamedFacts.{of_from-more, of_from-other, of_from-end}
 use Rattle.binder.proofs.named.+are_of.Goals as goal
 
 pub are_of-returns-in-And : goal.are_of-returns-in-And

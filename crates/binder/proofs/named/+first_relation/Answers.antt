@@ -1,8 +1,8 @@
-use Rattle.std.proofs.Common.{◌≡◌, ◌∙◌, ◌<◌, List, length, get_or, ap, sym, arith}
+use Rattle.std.proofs.Common.{◌∙◌, ap, sym, arith}
 use Rattle.binder.specs.Scope.{scope_of}
 use Rattle.binder.specs.Conjuncts.{first_relation, columns_in}
 use Rattle.binder.proofs.CondFacts.{columns_in-And, columns_in-Or, columns_in-Not, columns_in-Compare, columns_in-Between, columns_in-InList, columns_in-Like}
-use Rattle.binder.proofs.NamedFacts.{IsFirstFrom, first_from-more, first_from-found, first_from-end}
+use Rattle.binder.proofs.NamedFacts.{first_from-more, first_from-found, first_from-end}
 use Rattle.binder.proofs.named.+first_relation.Goals as goal
 
 pub first_relation-returns-in-And : goal.first_relation-returns-in-And

@@ -1,10 +1,10 @@
-use Rattle.std.proofs.Common.{◌≡◌, ◌∙◌, ◌<◌, ◌+◌, List, length, get_or, ap, sym, subst, arith}
+use Rattle.std.proofs.Common.{◌∙◌, ◌+◌, List, ap, sym, subst, arith}
 use Rattle.std.specs.Prelude.{Option, None}
 use Rattle.sql_text.specs.declared.tree.Item.{Item}
 use Rattle.binder.specs.declared.found.Fault.{Fault}
 use Rattle.binder.specs.Scope.{scope_of}
 use Rattle.binder.specs.Faults.{first_of, reference_faults}
-use Rattle.binder.proofs.FaultFacts.{IsNoted, noted-start, noted-more, noted-end}
+use Rattle.binder.proofs.FaultFacts.{IsNoted, noted-more, noted-end}
 use Rattle.binder.proofs.operands.in_list.Goals as goal
 
 pub loop-item-preserved : goal.loop-item-preserved

@@ -1,4 +1,4 @@
-use Rattle.std.proofs.Common.{◌≡◌, ◌∙◌, [], ap, sym}
+use Rattle.std.proofs.Common.{◌∙◌, [], ap, sym}
 use Rattle.std.specs.Prelude.{None}
 use Rattle.binder.specs.Faults.{each_behind, first_of, source_faults, table_faults}
 use Rattle.binder.proofs.LimitFacts.{within_limits}

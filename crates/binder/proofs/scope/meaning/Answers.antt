@@ -1,9 +1,7 @@
-use Rattle.std.proofs.Common.{◌≡◌, ◌∙◌, ◌+◌, ◌<◌, ◌≤◌, Bool, true, false, List, length, get_or, ap, sym, arith, subst}
-use Rattle.std.specs.Prelude.{Option, None, Some, Ok}
-use Rattle.std.specs.Option.{is_some}
-use Rattle.sql_text.specs.declared.tree.Source.{Source}
+use Rattle.std.proofs.Common.{◌∙◌, ◌+◌, length, get_or, ap, sym, arith, subst}
+use Rattle.std.specs.Prelude.{Option}
 use Rattle.binder.specs.declared.columns.ColumnRef.{ColumnRef}
-use Rattle.binder.specs.Scope.{meaning, meaning_in, relation_of, scope_of}
+use Rattle.binder.specs.Scope.{meaning_in, relation_of}
 use Rattle.binder.proofs.ScopeFacts.{IsFound, found-start, found-none, found-some, found-some_twice, found-end-none, found-end-some}
 use Rattle.binder.proofs.scope.meaning.Goals as goal
 use Rattle.binder.proofs.scope.meaning.Goals.{in-Some+else-is_some, in_default}

@@ -1,5 +1,4 @@
-use Rattle.std.proofs.Common.{◌<◌, ◌≤◌, length, ap, arith, subst}
-use Rattle.std.specs.Prelude.{IfSome, Option}
+use Rattle.std.proofs.Common.{◌≤◌, length, ap, arith}
 use Rattle.rpt_base.specs.declared.limits.TheConstants.{MAX_COLUMNS}
 use Rattle.binder.specs.Scope.{columns_of}
 use Rattle.binder.proofs.ScopeFacts.{columns_within}

@@ -1,5 +1,5 @@
-use Rattle.std.proofs.Common.{◌<◌, ◌∙◌, ◌+◌, List, length, take, get_or, ap, sym, subst, arith}
-use Rattle.std.specs.Prelude.{Option, None}
+use Rattle.std.proofs.Common.{◌∙◌, ◌+◌, take, ap, sym, subst, arith}
+use Rattle.std.specs.Prelude.{Option}
 use Rattle.binder.specs.declared.found.Fault.{Fault}
 use Rattle.binder.specs.Faults.{column_faults, first_of}
 use Rattle.binder.proofs.FaultFacts.{IsNotedBehind, noted_behind-more, noted_behind-end}

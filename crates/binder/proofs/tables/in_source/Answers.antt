@@ -1,5 +1,5 @@
-use Rattle.std.proofs.Common.{◌∙◌, sym, ap}
-use Rattle.binder.specs.Faults.{first_of, source_faults}
+use Rattle.std.proofs.Common.{◌∙◌, sym}
+use Rattle.binder.specs.Faults.{source_faults}
 use Rattle.binder.proofs.FaultFacts.{first_of-append}
 use Rattle.binder.proofs.tables.in_source.Goals as goal
 

@@ -1,4 +1,4 @@
-use Rattle.std.proofs.Common.{◌<◌, ◌∙◌, ◌+◌, List, length, take, get_or, ap, sym, subst, arith}
+use Rattle.std.proofs.Common.{◌∙◌, ◌+◌, take, ap, sym, subst, arith}
 use Rattle.std.specs.Prelude.{Option, None}
 use Rattle.binder.specs.declared.found.Fault.{Fault}
 use Rattle.binder.specs.Faults.{table_faults, first_of}

@@ -1,4 +1,3 @@
-use Rattle.std.proofs.Common.{length}
 use Rattle.rpt_cli.proofs.TableFacts.{HasCome}
 use Rattle.rpt_cli.proofs.tables.answer_tables.Given as goal
 
