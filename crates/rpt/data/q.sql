@@ -1,1 +1,0 @@
-CREATE TABLE t (x INT, y TEXT); SELECT y FROM t WHERE x = 2;
