@@ -17,3 +17,9 @@ pub mod ShownFacts
 pub mod UsedFacts
 pub mod RefusalFacts
 pub mod BindingFacts
+pub mod ClassFacts
+pub mod LabelFacts
+pub mod PairFacts
+pub mod PlaceFacts
+pub mod SetFacts
+pub mod WidthFacts

@@ -4,3 +4,5 @@ pub mod Faults
 pub mod Query
 pub mod Binding
 pub mod Answer
+pub mod Labels
+pub mod Variables

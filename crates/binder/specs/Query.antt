@@ -1,6 +1,6 @@
 -- A bound query.
 use Rattle.std.specs.Prelude.{◌≡◌, ℕ, ◌<◌, ◌≤◌, List, [], length, map, IsTrue, Some, slice_get, slice_index, slice_index_or}
-use Rattle.std.specs.List.{All}
+use Rattle.std.specs.List.{All, range_with_len}
 use Rattle.rpt_base.specs.declared.values.ColumnType.{ColumnType}
 use Rattle.column_table.specs.declared.declared.ColumnDecl.{ColumnDecl}
 use Rattle.column_table.specs.declared.declared.Decl.{Decl}
@@ -27,6 +27,10 @@ types_of columns = map (λ (c : ColumnDecl). c.kind) columns
 -- the columns of a relation
 abbrev pub columns_of : Query → ℕ → List ColumnDecl
 columns_of q r = (slice_index_or q.tables (slice_index q.table_of r) (record { name = []; columns = [] })).columns
+
+-- how many columns each relation has
+abbrev pub widths_of : Query → List ℕ
+widths_of q = map (λ r. length (columns_of q r)) (range_with_len 0 (length q.table_of))
 
 -- the types of a relation's columns
 abbrev pub kinds_of : Query → ℕ → List ColumnType
