@@ -18,14 +18,15 @@ use Rattle.sql_text.specs.declared.tree.Item.{Item}
 use Rattle.sql_text.specs.declared.tree.Items.{Items}
 use Rattle.sql_text.specs.declared.tree.Items.TheVariants as items
 use Rattle.sql_text.specs.declared.tree.Source.{Source}
-use Rattle.binder.specs.declared.columns.ColumnRef.{ColumnRef}
+use Rattle.column_classes.specs.declared.columns.ColumnRef.{ColumnRef}
 use Rattle.binder.specs.declared.output.OutColumn.{OutColumn}
-use Rattle.binder.specs.Scope.{IsWithinLimits, Relation, columns_of, meaning, name_of, relation_of, scope_of}
-use Rattle.binder.specs.Conjuncts.{columns_in, conjuncts_of, found, is_equality}
-use Rattle.binder.specs.Faults.{conjunct_faults, refusal_of}
-use Rattle.binder.specs.Query.{IsBound, Joins, Names, Query, kinds_of, types_of}
+use Rattle.script_rules.specs.Scope.{IsWithinLimits, Relation, columns_of, meaning, name_of, relation_of, scope_of}
+use Rattle.script_rules.specs.Conjuncts.{columns_in, conjuncts_of, found, is_equality}
+use Rattle.script_rules.specs.Faults.{conjunct_faults, refusal_of}
+use Rattle.binder.specs.Query.{IsBound, Joins, Names, Query, kinds_of}
+use Rattle.column_table.specs.Table.{types_of}
 use Rattle.binder.specs.Binding.{condition_of, equality_between, equality_of, item_output, output_of, declaration, is_declared, query_of, relation_output, table_number, tables_of}
-use Rattle.binder.proofs.ScopeFacts.{columns_within}
+use Rattle.script_rules.proofs.ScopeFacts.{columns_within}
 use Rattle.binder.proofs.ClearFacts.{All-flat_map, clear-within, refusal_of-none}
 use Rattle.binder.proofs.RangeFacts.{IsColumn, all-places, column-kinds, columns_in-columns, columns_under, meaning-column, scope_kinds, slice_get-there}
 use Rattle.binder.proofs.TypedFacts.{condition_of-typed}

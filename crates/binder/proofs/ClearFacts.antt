@@ -5,13 +5,13 @@ use Rattle.std.specs.List.{flat_map}
 use Rattle.std.specs.Option.{option_or}
 use Rattle.std.proofs.lemmas.List.Elements.{All-append, All-cons, All-nil, All-tail}
 use Rattle.sql_text.specs.declared.tree.Script.{Script}
-use Rattle.binder.specs.declared.found.Fault.{Fault}
-use Rattle.binder.specs.declared.kinds.BindKind.{BindKind}
-use Rattle.binder.specs.Scope.{IsWithinLimits, scope_of}
-use Rattle.binder.specs.Conjuncts.{conjuncts_of}
-use Rattle.binder.specs.Faults.{conjunct_faults, each_behind, fault_if, item_faults, refusal_of, source_faults, table_faults}
-use Rattle.binder.proofs.FaultFacts.{first_of-none}
-use Rattle.binder.proofs.LimitFacts.{within_limits}
+use Rattle.script_rules.specs.declared.found.Fault.{Fault}
+use Rattle.script_rules.specs.declared.kinds.BindKind.{BindKind}
+use Rattle.script_rules.specs.Scope.{IsWithinLimits, scope_of}
+use Rattle.script_rules.specs.Conjuncts.{conjuncts_of}
+use Rattle.script_rules.specs.Faults.{conjunct_faults, each_behind, fault_if, item_faults, refusal_of, source_faults, table_faults}
+use Rattle.script_rules.proofs.FaultFacts.{first_of-none}
+use Rattle.script_rules.proofs.LimitFacts.{within_limits}
 
 pub front-empty : {X : Type 0} (xs ys : List X) → xs ++ ys ≡ [] → xs ≡ []
 front-empty [] ys h = refl

@@ -8,10 +8,10 @@ use Rattle.std.proofs.lemmas.List.{append-nil}
 use Rattle.sql_text.specs.declared.tree.Cond.{Cond}
 use Rattle.sql_text.specs.declared.tree.Script.{Script}
 use Rattle.sql_text.specs.declared.tree.Source.{Source}
-use Rattle.binder.specs.Scope.{Relation}
-use Rattle.binder.specs.Conjuncts.{columns_in, conjuncts_of, is_equality, parts_of}
+use Rattle.script_rules.specs.Scope.{Relation}
+use Rattle.script_rules.specs.Conjuncts.{columns_in, conjuncts_of, is_equality, parts_of}
 use Rattle.binder.specs.Binding.{equality_between, equality_of}
-use Rattle.binder.proofs.ConjunctFacts.{flat_map-flat_map}
+use Rattle.script_rules.proofs.ConjunctFacts.{flat_map-flat_map}
 
 module _ (scope : List Relation) (x : Cond) where
   pub equality_of-none : is_equality x ≡ false → equality_of scope x ≡ []

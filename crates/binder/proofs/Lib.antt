@@ -1,10 +1,3 @@
-pub mod ScopeFacts
-pub mod FaultFacts
-pub mod TypeFacts
-pub mod CondFacts
-pub mod NamedFacts
-pub mod ConjunctFacts
-pub mod LimitFacts
 pub mod ClearFacts
 pub mod RangeFacts
 pub mod TypedFacts
@@ -15,11 +8,5 @@ pub mod GatherFacts
 pub mod EqualityFacts
 pub mod ShownFacts
 pub mod UsedFacts
-pub mod RefusalFacts
 pub mod BindingFacts
-pub mod ClassFacts
-pub mod LabelFacts
-pub mod PairFacts
-pub mod PlaceFacts
-pub mod SetFacts
 pub mod WidthFacts

@@ -17,10 +17,10 @@ use Rattle.sql_text.specs.declared.tree.Expr.{Expr}
 use Rattle.sql_text.specs.declared.tree.Op.{Op}
 use Rattle.sql_text.specs.declared.tree.Script.{Script}
 use Rattle.sql_text.specs.declared.tree.Source.{Source}
-use Rattle.binder.specs.Scope.{Relation}
-use Rattle.binder.specs.Conjuncts.{conjuncts_of, parts_of}
+use Rattle.script_rules.specs.Scope.{Relation}
+use Rattle.script_rules.specs.Conjuncts.{conjuncts_of, parts_of}
 use Rattle.binder.specs.Binding.{is_between, is_condition_of, is_in, negated_if, op_of, operand_of, pred_of, pred_over}
-use Rattle.binder.proofs.ConjunctFacts.{flat_map-flat_map}
+use Rattle.script_rules.proofs.ConjunctFacts.{flat_map-flat_map}
 
 module _ (scope : List Relation) where
   pub pred_of-And : (members : List Cond) → pred_of scope (c.And members) ≡ pred.And (map (pred_of scope) members)

@@ -16,10 +16,10 @@ use Rattle.sql_text.specs.declared.tree.Cond.TheFolds.{ind-Cond}
 use Rattle.sql_text.specs.declared.tree.Cond.TheVariants.{rolls-And, rolls-Or, rolls-Not, rolls-Compare, rolls-Between, rolls-InList, rolls-Like}
 use Rattle.sql_text.specs.declared.tree.Expr.{Expr}
 use Rattle.sql_text.specs.declared.tree.Expr.TheVariants as expr
-use Rattle.binder.specs.declared.columns.ColumnRef.{ColumnRef}
-use Rattle.binder.specs.Scope.{Relation, column_in, kind_under, may_mean, meaning, meaning_in, meanings, only_meaning, type_at}
-use Rattle.binder.specs.Conjuncts.{column_of, columns_in, columns_of_operands, found}
-use Rattle.binder.proofs.CondFacts.{columns_in-And, columns_in-Or, columns_in-Not, columns_in-Compare, columns_in-Between, columns_in-InList, columns_in-Like}
+use Rattle.column_classes.specs.declared.columns.ColumnRef.{ColumnRef}
+use Rattle.script_rules.specs.Scope.{Relation, column_in, kind_under, may_mean, meaning, meaning_in, meanings, only_meaning, type_at}
+use Rattle.script_rules.specs.Conjuncts.{column_of, columns_in, columns_of_operands, found}
+use Rattle.script_rules.proofs.CondFacts.{columns_in-And, columns_in-Or, columns_in-Not, columns_in-Compare, columns_in-Between, columns_in-InList, columns_in-Like}
 use Rattle.binder.proofs.ClearFacts.{All-flat_map}
 
 -- the columns of a relation that may be missing

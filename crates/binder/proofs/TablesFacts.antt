@@ -11,8 +11,8 @@ use Rattle.column_table.specs.declared.declared.Decl.{Decl}
 use Rattle.sql_text.specs.declared.tree.CreateTable.{CreateTable}
 use Rattle.sql_text.specs.declared.tree.ColumnItem.{ColumnItem}
 use Rattle.sql_text.specs.declared.tree.Source.{Source}
-use Rattle.binder.specs.Scope.{columns_of, table_named}
-use Rattle.binder.specs.Query.{types_of}
+use Rattle.script_rules.specs.Scope.{columns_of, table_named}
+use Rattle.column_table.specs.Table.{types_of}
 use Rattle.binder.specs.Binding.{decl_of, declaration, is_declared, table_number, tables_behind, with_table}
 
 or-more : (b c d : Bool) → (c ≡ true → d ≡ true) → (b || c) ≡ true → (b || d) ≡ true

@@ -25,14 +25,15 @@ use Rattle.sql_text.specs.declared.tree.Cond.TheVariants as c
 use Rattle.sql_text.specs.declared.tree.Expr.{Expr}
 use Rattle.sql_text.specs.declared.tree.Expr.TheVariants as expr
 use Rattle.sql_text.specs.declared.tree.Op.{Op as WrittenOp}
-use Rattle.binder.specs.declared.columns.ColumnRef.{ColumnRef}
-use Rattle.binder.specs.declared.kinds.BindKind.{BindKind}
-use Rattle.binder.specs.Scope.{Relation, meaning}
-use Rattle.binder.specs.Conjuncts.{are_of, column_of, columns_in, columns_of_operands, found, is_equality, of_two_relations}
-use Rattle.binder.specs.Faults.{between_faults, compare_faults, cond_faults, conjunct_faults, differ, is_same_type, join_faults, like_faults, list_faults, meaning_faults, operand_faults, reference_faults, type_faults, type_meant, type_of, type_of_value}
+use Rattle.column_classes.specs.declared.columns.ColumnRef.{ColumnRef}
+use Rattle.script_rules.specs.declared.kinds.BindKind.{BindKind}
+use Rattle.script_rules.specs.Scope.{Relation, meaning}
+use Rattle.script_rules.specs.Conjuncts.{are_of, column_of, columns_in, columns_of_operands, found, is_equality, of_two_relations}
+use Rattle.script_rules.specs.Faults.{between_faults, compare_faults, cond_faults, conjunct_faults, differ, is_same_type, join_faults, like_faults, list_faults, meaning_faults, operand_faults, reference_faults, type_faults, type_meant, type_of}
+use Rattle.column_table.specs.Table.{type_of_value}
 use Rattle.binder.specs.Binding.{condition_of, is_between, is_condition_of, is_in, negated_if, op_of, operand_of, place_meant, pred_of, pred_over, relation_of_conjunct}
-use Rattle.binder.proofs.TypeFacts.{differ-values}
-use Rattle.binder.proofs.CondFacts.{columns_in-And, columns_in-Or, columns_in-Not, columns_in-Compare, columns_in-Between, columns_in-InList, columns_in-Like, cond_faults-And, cond_faults-Or, cond_faults-Not, cond_faults-Compare, cond_faults-Between, cond_faults-InList, cond_faults-Like}
+use Rattle.script_rules.proofs.TypeFacts.{differ-values}
+use Rattle.script_rules.proofs.CondFacts.{columns_in-And, columns_in-Or, columns_in-Not, columns_in-Compare, columns_in-Between, columns_in-InList, columns_in-Like, cond_faults-And, cond_faults-Or, cond_faults-Not, cond_faults-Compare, cond_faults-Between, cond_faults-InList, cond_faults-Like}
 use Rattle.binder.proofs.ClearFacts.{and-both, and-left, and-right, back-empty, front-empty, not-false, not_fault}
 use Rattle.binder.proofs.RangeFacts.{IsColumn, column_of-column, scope_kinds, type_at-kinds, type_at-known}
 

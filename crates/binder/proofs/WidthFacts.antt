@@ -1,24 +1,22 @@
 -- The numbers of columns of a bound query's relations.
 use Rattle.std.proofs.Common.{◌≡◌, ◌∙◌, ◌+◌, ◌<◌, ◌≤◌, ◌++◌, ◌∷◌, ℕ, List, [], arith, ap, false, sym, length, map, get_or}
-use Rattle.std.specs.Prelude.{All, Result, Ok, Err, is_err, is_ok, slice_index, if◌then◌else◌}
-use Rattle.std.specs.List.{range_with_len}
-use Rattle.std.proofs.lemmas.List.{length-map}
-use Rattle.std.proofs.lemmas.List.FromFn.{get_or-map-range_with_len, length-map-range_with_len, map-range_with_len_more}
+use Rattle.std.specs.Prelude.{All, Result, Ok, Err, is_err, is_ok, slice_index, take, if◌then◌else◌}
+use Rattle.std.proofs.lemmas.List.{get_or-map, length-map, map-append, take_more}
 use Rattle.column_table.specs.declared.declared.ColumnDecl.{ColumnDecl}
 use Rattle.column_table.specs.declared.declared.Decl.{Decl}
-use Rattle.binder.specs.declared.columns.ColumnRef.{ColumnRef}
-use Rattle.binder.specs.declared.columns.Equality.{Equality}
-use Rattle.binder.specs.Query.{IsBound, Joins, Names, Query, columns_of, kinds_of, widths_of}
-use Rattle.binder.specs.Variables.{AreEqualities, AreWidths, IsColumn}
+use Rattle.column_classes.specs.declared.columns.ColumnRef.{ColumnRef}
+use Rattle.column_classes.specs.declared.columns.Equality.{Equality}
+use Rattle.binder.specs.Query.{IsBound, Joins, Names, Query, columns_in, columns_of, kinds_of, widths_in, widths_of}
+use Rattle.column_classes.specs.Variables.{AreEqualities, AreWidths, IsColumn}
 
 module _ (q : Query) where
   -- there is a width for each relation
   pub widths-length : length (widths_of q) ≡ length q.table_of
-  widths-length = length-map-range_with_len (λ r. length (columns_of q r)) 0 (length q.table_of)
+  widths-length = length-map q.table_of (λ t. length (columns_in q.tables t))
 
   -- the width of a relation
   width-at : (r d : ℕ) → r < length q.table_of → get_or (widths_of q) r d ≡ length (columns_of q r)
-  width-at r d lt = get_or-map-range_with_len (λ r. length (columns_of q r)) 0 (length q.table_of) r r d lt (omega arith)
+  width-at r d lt = get_or-map (λ t. length (columns_in q.tables t)) q.table_of r 0 d lt
 
   pub widths-are : IsBound q → AreWidths (widths_of q)
   widths-are bound = record {
@@ -39,10 +37,11 @@ module _ (q : Query) where
   pub equalities-are : IsBound q → AreEqualities (widths_of q) q.equalities
   equalities-are bound = λ k d lt. let joins : Joins q (get_or q.equalities k d) = bound.joined k d lt in (column-is _ joins.left, column-is _ joins.right)
 
-  -- one width more
-  pub widths-more : {E : Type 0} (r : ℕ) (before after : List ℕ) (w : ℕ) (done : Result (Unit {0}) E) → before ≡ map (λ r. length (columns_of q r)) (range_with_len 0 r) → w ≡ length (columns_of q r)
-      → after ≡ (if is_ok done then before ++ w ∷ [] else before) → is_err done ≡ false → after ≡ map (λ r. length (columns_of q r)) (range_with_len 0 (r + 1))
-  widths-more r before after w (Ok done) b e is none =
-      is ∙ ap (λ (ws : List ℕ). ws ++ w ∷ []) b ∙ ap (λ (n : ℕ). map (λ r. length (columns_of q r)) (range_with_len 0 r) ++ n ∷ []) e
-      ∙ sym (map-range_with_len_more (λ r. length (columns_of q r)) 0 r r (omega arith))
-  widths-more r before after w (Err failed) b e is none = cc none
+-- one width more
+pub widths-more : {E : Type 0} (tables : List Decl) (table_of : List ℕ) (r d : ℕ) (before after : List ℕ) (w : ℕ) (done : Result (Unit {0}) E) → r < length table_of → before ≡ widths_in tables (take r table_of)
+    → w ≡ length (columns_in tables (get_or table_of r d)) → after ≡ (if is_ok done then before ++ w ∷ [] else before) → is_err done ≡ false → after ≡ widths_in tables (take (r + 1) table_of)
+widths-more tables table_of r d before after w (Ok done) lt b e is none =
+    let f : ℕ → ℕ = λ t. length (columns_in tables t) in
+    is ∙ ap (λ (ws : List ℕ). ws ++ w ∷ []) b ∙ ap (λ (n : ℕ). map f (take r table_of) ++ n ∷ []) e
+    ∙ sym (ap (map f) (take_more table_of r d lt) ∙ map-append f (take r table_of) (get_or table_of r d ∷ []))
+widths-more tables table_of r d before after w (Err failed) lt b e is none = cc none

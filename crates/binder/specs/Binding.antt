@@ -26,11 +26,11 @@ use Rattle.sql_text.specs.declared.tree.Op.TheVariants as written
 use Rattle.sql_text.specs.declared.tree.Cond.{Cond}
 use Rattle.sql_text.specs.declared.tree.Cond.TheOpen.{Cond-F, And, Or, Not, Compare, Between, InList, Like}
 use Rattle.sql_text.specs.declared.tree.Cond.TheFolds.{fold-Cond}
-use Rattle.binder.specs.declared.columns.ColumnRef.{ColumnRef}
-use Rattle.binder.specs.declared.columns.Equality.{Equality}
+use Rattle.column_classes.specs.declared.columns.ColumnRef.{ColumnRef}
+use Rattle.column_classes.specs.declared.columns.Equality.{Equality}
 use Rattle.binder.specs.declared.output.OutColumn.{OutColumn}
-use Rattle.binder.specs.Scope.{Relation, columns_of, meaning, name_of, scope_of}
-use Rattle.binder.specs.Conjuncts.{columns_in, conjuncts_of, first_relation, found, is_equality}
+use Rattle.script_rules.specs.Scope.{Relation, columns_of, meaning, name_of, scope_of}
+use Rattle.script_rules.specs.Conjuncts.{columns_in, conjuncts_of, first_relation, found, is_equality}
 use Rattle.binder.specs.Query.{Query}
 
 -- a declared column

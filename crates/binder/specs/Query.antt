@@ -1,13 +1,16 @@
 -- A bound query.
 use Rattle.std.specs.Prelude.{◌≡◌, ℕ, ◌<◌, ◌≤◌, List, [], length, map, IsTrue, Some, slice_get, slice_index, slice_index_or}
-use Rattle.std.specs.List.{All, range_with_len}
+use Rattle.std.specs.List.{All}
+use Rattle.rpt_base.specs.declared.limits.TheConstants.{MAX_COLUMNS, MAX_RELATIONS}
 use Rattle.rpt_base.specs.declared.values.ColumnType.{ColumnType}
+use Rattle.column_table.specs.Table.{types_of}
 use Rattle.column_table.specs.declared.declared.ColumnDecl.{ColumnDecl}
 use Rattle.column_table.specs.declared.declared.Decl.{Decl}
 use Rattle.predicate.specs.declared.tree.Pred.{Pred}
 use Rattle.predicate.specs.Truth.{is_typed}
-use Rattle.binder.specs.declared.columns.ColumnRef.{ColumnRef}
-use Rattle.binder.specs.declared.columns.Equality.{Equality}
+use Rattle.column_classes.specs.Variables.{AreQueryVariables, QueryVariables}
+use Rattle.column_classes.specs.declared.columns.ColumnRef.{ColumnRef}
+use Rattle.column_classes.specs.declared.columns.Equality.{Equality}
 use Rattle.binder.specs.declared.output.OutColumn.{OutColumn}
 
 -- The relations' names, the different tables by first use and the number of each relation's, the condition of each relation, the
@@ -20,17 +23,21 @@ pub record Query : Type 0 where
   pub equalities : List Equality
   pub output : List OutColumn
 
--- the types of a table's columns
-abbrev pub types_of : List ColumnDecl → List ColumnType
-types_of columns = map (λ (c : ColumnDecl). c.kind) columns
+-- the columns of the table with this number
+abbrev pub columns_in : List Decl → ℕ → List ColumnDecl
+columns_in tables t = (slice_index_or tables t (record { name = []; columns = [] })).columns
 
 -- the columns of a relation
 abbrev pub columns_of : Query → ℕ → List ColumnDecl
-columns_of q r = (slice_index_or q.tables (slice_index q.table_of r) (record { name = []; columns = [] })).columns
+columns_of q r = columns_in q.tables (slice_index q.table_of r)
+
+-- how many columns the relations with these tables have
+abbrev pub widths_in : List Decl → List ℕ → List ℕ
+widths_in tables table_of = map (λ t. length (columns_in tables t)) table_of
 
 -- how many columns each relation has
 abbrev pub widths_of : Query → List ℕ
-widths_of q = map (λ r. length (columns_of q r)) (range_with_len 0 (length q.table_of))
+widths_of q = widths_in q.tables q.table_of
 
 -- the types of a relation's columns
 abbrev pub kinds_of : Query → ℕ → List ColumnType
@@ -46,15 +53,29 @@ pub record Joins (q : Query) (e : Equality) : Type 0 where
   pub left : Names q e.left
   pub right : Names q e.right
 
+-- a query, and what is known of its variables
+pub record BoundQuery : Type 0 where
+  pub query : Query
+  pub known : QueryVariables
+
+-- no table has too many columns
+abbrev pub AreNarrow : List Decl → Type 0
+AreNarrow tables = All (λ (d : Decl). length d.columns ≤ MAX_COLUMNS) tables
+
 -- all of a query's numbers are in range, its conditions are typed, and its parts are within the limits
 pub record IsBound (q : Query) : Type 0 where
   pub some : 1 ≤ length q.table_of
-  pub few : length q.table_of ≤ 16
-  pub few_tables : length q.tables ≤ 16
-  pub few_columns : All (λ (d : Decl). length d.columns ≤ 64) q.tables
+  pub few : length q.table_of ≤ MAX_RELATIONS
+  pub few_tables : length q.tables ≤ MAX_RELATIONS
+  pub few_columns : AreNarrow q.tables
   pub same : length q.conditions ≡ length q.table_of
   pub named : length q.aliases ≡ length q.table_of
   pub within : (r : ℕ) → r < length q.table_of → slice_index q.table_of r < length q.tables
   pub typed : (r : ℕ) (p : Pred) → slice_get q.conditions r ≡ Some p → IsTrue (is_typed (kinds_of q r) p)
   pub joined : All (Joins q) q.equalities
   pub shown : All (λ (c : OutColumn). Names q c.source) q.output
+
+-- the query is in order, and its variables are those of its written equalities
+pub record IsBoundQuery (b : BoundQuery) : Type 0 where
+  pub query : IsBound b.query
+  pub known : AreQueryVariables (widths_of b.query) b.query.equalities b.known

@@ -1,18 +1,19 @@
 // Binding.
 ghost use Rattle.std.specs.Prelude.{◌≡◌, ◌≤◌, IfOk, Err, None, Some, ℕ, length};
 ghost use Rattle.binder.specs.Binding.{query_of};
-ghost use Rattle.binder.specs.Faults.{refusal_of};
-ghost use Rattle.binder.specs.Scope.{IsWithinLimits};
-ghost use Rattle.binder.specs.declared.kinds.BindKind.{BindKind as Kind};
+ghost use Rattle.script_rules.specs.Faults.{refusal_of};
+ghost use Rattle.script_rules.specs.Scope.{IsWithinLimits};
+ghost use Rattle.script_rules.specs.declared.kinds.BindKind.{BindKind as Kind};
 
 use crate::bound::Bound;
-use crate::kinds::BindError;
-use crate::refusal::first_fault;
+use crate::refusal::BindError;
 use crate::shown::output;
 use crate::translate::conditions;
 use crate::used::{aliases, table_numbers, tables_of};
+use crate::widths::variables;
 use crate::written::equalities;
 use rpt_base::Memory;
+use script_rules::first_fault;
 use sql_text::Script;
 use std::alloc::Global;
 
@@ -20,7 +21,7 @@ use std::alloc::Global;
 /// refusals. It selects from one source at least, as each script that is read does.
 pub fn bind(alloc: Global, script: &Script) -> Result<Bound, BindError>
     requires sources { 1 ≤ length script.now.select.sources }
-    ensures bound { IfOk result (λ b. b ≡ query_of script.now) }
+    ensures bound { IfOk result (λ b. b.query ≡ query_of script.now) }
     ensures none { IfOk result (λ b. refusal_of script.now ≡ None) }
     ensures refused { (kind : Kind) (at : ℕ) → result ≡ Err (BindError.Refused kind at) → refusal_of script.now ≡ Some (record { at = at; kind = kind }) }
 {
@@ -41,7 +42,7 @@ fn bound(alloc: Global, script: &Script) -> Result<Bound, Memory>
     requires sources { 1 ≤ length script.now.select.sources }
     requires none { refusal_of script.now ≡ None }
     requires limits { IsWithinLimits script.now }
-    ensures { IfOk result (λ b. b ≡ query_of script.now) }
+    ensures { IfOk result (λ b. b.query ≡ query_of script.now) }
 {
     let aliases = aliases(alloc, script)?;
     let tables = tables_of(alloc, script)?;
@@ -49,6 +50,12 @@ fn bound(alloc: Global, script: &Script) -> Result<Bound, Memory>
     let conditions = conditions(alloc, script)?;
     let equalities = equalities(alloc, script)?;
     let output = output(alloc, script)?;
+    let variables = variables(
+        alloc,
+        tables.as_slice(),
+        table_of.as_slice(),
+        equalities.as_slice(),
+    )?;
     Ok(Bound {
         aliases,
         tables,
@@ -56,5 +63,6 @@ fn bound(alloc: Global, script: &Script) -> Result<Bound, Memory>
         conditions,
         equalities,
         output,
+        variables,
     })
 }

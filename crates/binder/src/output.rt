@@ -1,5 +1,5 @@
 // Columns of the output.
-use crate::columns::ColumnRef;
+use column_classes::ColumnRef;
 use rpt_base::Name;
 
 /// A column of the output: the column of the query that it shows, and its title.

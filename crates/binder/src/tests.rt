@@ -1,12 +1,13 @@
-use crate::first_fault;
+use crate::{BindError, Bound, ColumnRef, bind};
 use sql_lex::lex;
 use sql_text::parse;
 use std::alloc::Global;
+use std::fmt::Write;
 use std::process::Abort;
 use std::test::Fail;
 
-// The refusal of a script in words.
-fn refusal(alloc: Global, script: &[u8]) -> Result<String, Fail> {
+// What a script is bound to, or its refusal, in lines.
+fn said(alloc: Global, script: &[u8]) -> Result<String, Fail> {
     let mut text = String::new(alloc);
     if script.len() > 1_048_576 {
         return Ok(text);
@@ -19,58 +20,69 @@ fn refusal(alloc: Global, script: &[u8]) -> Result<String, Fail> {
         text.push_str("no script")?;
         return Ok(text);
     };
-    if let Some(fault) = first_fault(&script) {
-        let line = format!(in alloc; "{:?} at {}", fault.kind, fault.at)?;
-        text.push_str(line.as_str())?;
+    match bind(alloc, &script) {
+        Ok(bound) => put_query(&bound, &mut text)?,
+        Err(BindError::Refused { kind, at }) => write!(text, "{kind:?} at {at}")?,
+        Err(BindError::Memory) => text.push_str("no memory")?,
     }
     Ok(text)
 }
 
+fn put_query(bound: &Bound, text: &mut String) -> Result<(), Fail> {
+    for relation in 0..bound.relations() {
+        let alias = bound.alias(relation).as_str();
+        let table = bound.decl(bound.table_of(relation)).name.as_str();
+        let local = bound.local(relation);
+        write!(text, "{alias} of {table} {local:?}; ")?;
+    }
+    for variable in 0..bound.variables() {
+        put_columns(bound.columns_of(variable), text)?;
+    }
+    for set in bound.var_sets() {
+        let set = set.as_slice();
+        write!(text, "{set:?} ")?;
+    }
+    for column in bound.output() {
+        let (relation, number) = (column.source.relation, column.source.column);
+        let title = column.title.as_str();
+        write!(text, "{title}={relation}.{number} ")?;
+    }
+    Ok(())
+}
+
+fn put_columns(columns: &[ColumnRef], text: &mut String) -> Result<(), Fail> {
+    for column in columns {
+        write!(text, "{}.{} ", column.relation, column.column)?;
+    }
+    text.push_str("; ")?;
+    Ok(())
+}
+
 fn check_all(rt: &impl Abort, alloc: Global, rows: &[(&[u8], &str)]) -> Result<(), Fail> {
     for (script, wanted) in rows {
-        let text = refusal(alloc, script)?;
+        let text = said(alloc, script)?;
         assert_eq!(rt; text.as_str(), *wanted);
     }
     Ok(())
 }
 
 #[test]
-fn each_refusal_has_its_place(rt: HostRuntime) -> Result<(), Fail> {
+fn queries_have_their_variables_and_titles(rt: HostRuntime) -> Result<(), Fail> {
     check_all(
         &rt,
         rt.alloc(),
         &[
             (
-                b"CREATE TABLE t (x INT, y TEXT); SELECT z FROM t",
-                "UnknownColumn at 39",
+                b"CREATE TABLE r (a INT, c INT); CREATE TABLE s (b INT); SELECT r.a, s.b AS z FROM r, s WHERE r.a = s.b AND s.b = r.c",
+                "r of r [(0, 1)]; s of s []; 0.0 0.1 1.0 ; [0] [0] a=0.0 z=1.0 ",
             ),
             (
-                b"CREATE TABLE t (x INT, y TEXT); SELECT x FROM s",
-                "UnknownTable at 46",
+                b"CREATE TABLE t (x INT, y INT); SELECT * FROM t a JOIN t b ON a.x = c.x JOIN t c ON b.y = c.y",
+                "a of t []; b of t []; c of t []; 0.0 2.0 ; 1.1 2.1 ; [0] [1] [0, 1] x=0.0 y=0.1 x=1.0 y=1.1 x=2.0 y=2.1 ",
             ),
             (
-                b"CREATE TABLE t (x INT, y TEXT); SELECT x FROM t WHERE y = 1",
-                "TypeMismatch at 54",
-            ),
-            (
-                b"CREATE TABLE t (x INT, y TEXT); SELECT a.x FROM t a, t b WHERE a.x < b.x",
-                "NotEquiJoin at 63",
-            ),
-            (
-                b"CREATE TABLE t (x INT, y TEXT); SELECT x FROM t a, t a",
-                "DuplicateAlias at 53",
-            ),
-            (
-                b"CREATE TABLE t (x INT, x INT); SELECT x FROM t",
-                "DuplicateColumn at 23",
-            ),
-            (
-                b"CREATE TABLE t (x INT); CREATE TABLE t (x INT); SELECT x FROM t",
-                "DuplicateTable at 37",
-            ),
-            (
-                b"CREATE TABLE \"a/b\" (x INT); SELECT x FROM \"a/b\"",
-                "BadTableName at 13",
+                b"CREATE TABLE b (z TEXT); CREATE TABLE a (x INT); SELECT x FROM a, b WHERE a.x = a.x",
+                "a of a []; b of b []; [] [] x=0.0 ",
             ),
             (
                 b"CREATE TABLE t (x INT); SELECT x FROM t a, t b WHERE a.x = b.x",
@@ -78,181 +90,4 @@ fn each_refusal_has_its_place(rt: HostRuntime) -> Result<(), Fail> {
             ),
         ],
     )
-}
-
-#[test]
-fn tests_are_typed(rt: HostRuntime) -> Result<(), Fail> {
-    check_all(
-        &rt,
-        rt.alloc(),
-        &[
-            (
-                b"CREATE TABLE t (x INT, y TEXT); SELECT x FROM t WHERE x BETWEEN 1 AND 'a'",
-                "TypeMismatch at 54",
-            ),
-            (
-                b"CREATE TABLE t (x INT, y TEXT); SELECT x FROM t WHERE x IN (1, 'a')",
-                "TypeMismatch at 54",
-            ),
-            (
-                b"CREATE TABLE t (x INT, y TEXT); SELECT x FROM t WHERE x LIKE 'a'",
-                "TypeMismatch at 54",
-            ),
-            (
-                b"CREATE TABLE t (x INT, y TEXT); SELECT x FROM t WHERE NOT (1 = 'a')",
-                "TypeMismatch at 59",
-            ),
-            // A column that isn't there has no type.
-            (
-                b"CREATE TABLE t (x INT, y TEXT); SELECT x FROM t WHERE 'a' BETWEEN 1 AND z",
-                "UnknownColumn at 72",
-            ),
-            (
-                b"CREATE TABLE t (x INT, y TEXT); SELECT x FROM t WHERE y LIKE 'a' AND x IN (1, 2)",
-                "",
-            ),
-            (
-                b"CREATE TABLE t (x INT, y TEXT); SELECT x FROM t WHERE x BETWEEN 1 AND x OR 'a' = y",
-                "",
-            ),
-        ],
-    )
-}
-
-#[test]
-fn conditions_on_two_relations_are_equalities(rt: HostRuntime) -> Result<(), Fail> {
-    check_all(
-        &rt,
-        rt.alloc(),
-        &[
-            (
-                b"CREATE TABLE t (x INT, y TEXT); SELECT a.x FROM t a, t b WHERE (a.x = b.x AND (a.y = 'v'))",
-                "",
-            ),
-            (
-                b"CREATE TABLE t (x INT, y TEXT); SELECT a.x FROM t a, t b WHERE (a.x = b.x OR a.x = 1)",
-                "NotEquiJoin at 64",
-            ),
-            (
-                b"CREATE TABLE t (x INT, y TEXT); SELECT a.x FROM t a, t b WHERE NOT (a.x = b.x)",
-                "NotEquiJoin at 63",
-            ),
-            (
-                b"CREATE TABLE t (x INT, y TEXT); SELECT a.x FROM t a JOIN t b ON a.x BETWEEN 1 AND b.x",
-                "NotEquiJoin at 64",
-            ),
-            (
-                b"CREATE TABLE t (x INT, y TEXT); SELECT a.x FROM t a JOIN t b ON 1 = 1 WHERE a.x < a.x",
-                "",
-            ),
-            // What isn't typed is refused for that alone.
-            (
-                b"CREATE TABLE t (x INT, y TEXT); SELECT a.x FROM t a, t b WHERE a.x < b.y",
-                "TypeMismatch at 63",
-            ),
-        ],
-    )
-}
-
-#[test]
-fn the_first_of_two_refusals_is_told(rt: HostRuntime) -> Result<(), Fail> {
-    check_all(
-        &rt,
-        rt.alloc(),
-        &[
-            // Created tables before sources, though both before in the script.
-            (
-                b"CREATE TABLE t (x INT, x INT); SELECT * FROM s",
-                "DuplicateColumn at 23",
-            ),
-            // Sources before items that stand before them.
-            (
-                b"CREATE TABLE t (x INT); SELECT z FROM s",
-                "UnknownTable at 38",
-            ),
-            // Items before conditions.
-            (
-                b"CREATE TABLE t (x INT); SELECT z FROM t WHERE q = 1",
-                "UnknownColumn at 31",
-            ),
-            // Sources before the conditions between them.
-            (
-                b"CREATE TABLE t (x INT); SELECT a.x FROM t a JOIN t b ON q = 1, s",
-                "UnknownTable at 63",
-            ),
-            // The place decides within a phase.
-            (
-                b"CREATE TABLE t (x INT, x INT); CREATE TABLE t (x INT); SELECT x FROM t",
-                "DuplicateColumn at 23",
-            ),
-            (
-                b"CREATE TABLE t (x INT); SELECT a.x FROM t a JOIN t b ON a.x < b.x WHERE q = 1",
-                "NotEquiJoin at 56",
-            ),
-            (
-                b"CREATE TABLE t (x INT); SELECT a.x FROM t a, t b WHERE q = 1 AND a.x < b.x",
-                "UnknownColumn at 55",
-            ),
-            // The kind decides at one place.
-            (
-                b"CREATE TABLE \"/\" (x INT); CREATE TABLE \"/\" (x INT); SELECT x FROM t",
-                "BadTableName at 13",
-            ),
-            (
-                b"CREATE TABLE t (x INT); SELECT x FROM s, s",
-                "UnknownTable at 38",
-            ),
-        ],
-    )
-}
-
-// A table of this many columns, and where the last one stands.
-fn wide(alloc: Global, count: u32) -> Result<(String, usize), Fail> {
-    let mut text = String::new(alloc);
-    text.push_str("CREATE TABLE t (c INT")?;
-    let mut place = 0;
-    for number in 1..count {
-        text.push_str(", ")?;
-        place = text.len();
-        let column = format!(in alloc; "c{} INT", number)?;
-        text.push_str(column.as_str())?;
-    }
-    text.push_str("); SELECT c FROM t")?;
-    Ok((text, place))
-}
-
-#[test]
-fn a_table_has_64_columns(rt: HostRuntime) -> Result<(), Fail> {
-    let alloc = rt.alloc();
-    let (text, _) = wide(alloc, 64)?;
-    assert_eq!(rt; refusal(alloc, text.as_str().as_bytes())?.as_str(), "");
-    let (text, place) = wide(alloc, 65)?;
-    let wanted = format!(in alloc; "TooManyColumns at {}", place)?;
-    assert_eq!(rt; refusal(alloc, text.as_str().as_bytes())?, wanted);
-    Ok(())
-}
-
-// A query of this many sources, and where the last one's table stands.
-fn many(alloc: Global, count: u32) -> Result<(String, usize), Fail> {
-    let mut text = String::new(alloc);
-    text.push_str("CREATE TABLE h (x INT); SELECT h0.x FROM h h0")?;
-    let mut place = 0;
-    for number in 1..count {
-        text.push_str(", ")?;
-        place = text.len();
-        let source = format!(in alloc; "h h{}", number)?;
-        text.push_str(source.as_str())?;
-    }
-    Ok((text, place))
-}
-
-#[test]
-fn a_query_has_16_relations(rt: HostRuntime) -> Result<(), Fail> {
-    let alloc = rt.alloc();
-    let (text, _) = many(alloc, 16)?;
-    assert_eq!(rt; refusal(alloc, text.as_str().as_bytes())?.as_str(), "");
-    let (text, place) = many(alloc, 17)?;
-    let wanted = format!(in alloc; "TooManyRelations at {}", place)?;
-    assert_eq!(rt; refusal(alloc, text.as_str().as_bytes())?, wanted);
-    Ok(())
 }

@@ -5,15 +5,13 @@ ghost use Rattle.std.specs.Option.{option_to_list};
 ghost use Rattle.predicate.specs.declared.tree.Operand.TheVariants as operand;
 ghost use Rattle.predicate.specs.declared.tree.Op.TheVariants as op;
 ghost use Rattle.predicate.specs.declared.tree.Pred.TheVariants as pred;
-ghost use Rattle.binder.specs.Scope.{IsWithinLimits, meaning, scope_of};
-ghost use Rattle.binder.specs.Conjuncts.{conjuncts_of, found, parts_of};
+ghost use Rattle.script_rules.specs.Scope.{IsWithinLimits, meaning, scope_of};
+ghost use Rattle.script_rules.specs.Conjuncts.{conjuncts_of, found, parts_of};
 ghost use Rattle.binder.specs.Binding.{condition_of, is_between, is_condition_of, is_in, negated_if, op_of, operand_of, place_meant, pred_of};
 
-use crate::conjuncts::is_equality;
-use crate::named::first_relation;
-use crate::scope::meaning;
 use predicate::{Op, Operand, Pred};
 use rpt_base::{Listed, Memory, Str, Value};
+use script_rules::{first_relation, is_equality, meaning};
 use sql_text::{ColumnName, Cond, Expr, Op as WrittenOp, Script};
 use sqlite_items::{Boxed, Items};
 use std::alloc::Global;

@@ -1,12 +1,12 @@
 // The tables that the sources use, and the names that they go by.
 ghost use Rattle.std.specs.Prelude.{◌≡◌, ◌<◌, ◌≤◌, IfOk, IfSome, OnOk, length, map, position};
 ghost use Rattle.std.specs.Str.{bytes_eq};
-ghost use Rattle.binder.specs.Scope.{name_of};
+ghost use Rattle.script_rules.specs.Scope.{name_of};
 ghost use Rattle.binder.specs.Binding.{decl_of, declaration, is_declared, table_number, tables_of, with_table};
 
-use crate::scope::{columns_of, is_same, name_of};
 use column_table::{ColumnDecl, Decl};
 use rpt_base::{Listed, Memory, Name};
+use script_rules::{columns_of, is_same, name_of};
 use sql_text::{ColumnItem, CreateTable, Script, Source};
 use std::alloc::Global;
 

@@ -1,45 +1,52 @@
-// How many columns the relations have, and the variables of a bound query.
-ghost use Rattle.std.specs.Prelude.{◌≡◌, ◌<◌, IfOk, length, map};
-ghost use Rattle.std.specs.List.{range_with_len};
-ghost use Rattle.binder.specs.Query.{columns_of, widths_of};
-ghost use Rattle.binder.specs.Variables.{AreQueryVariables};
+// How many columns the relations have, and the variables that their equalities make.
+ghost use Rattle.std.specs.Prelude.{◌≡◌, ◌≤◌, IfOk, length};
+ghost use Rattle.std.specs.List.{All};
+ghost use Rattle.rpt_base.specs.declared.limits.TheConstants.{MAX_COLUMNS};
+ghost use Rattle.column_classes.specs.Variables.{AreEqualities, AreQueryVariables, AreWidths};
+ghost use Rattle.binder.specs.Query.{AreNarrow, columns_in, widths_in};
 
-use crate::bound::Bound;
-use crate::variables::Variables;
+use column_classes::{Equality, Variables};
+use column_table::Decl;
 use rpt_base::Memory;
 use std::alloc::Global;
 
-impl Bound {
-    /// The classes of columns that the written equalities link: the variables, the pairs of linked columns of each relation, and
-    /// the variables of each relation.
-    pub fn variables(&self, alloc: Global) -> Result<Variables, Memory>
-        ensures { IfOk result (λ known. AreQueryVariables (widths_of self.now) self.now.equalities known) }
-    {
-        let widths = widths(alloc, self)?;
-        Variables::find(alloc, &widths, self.equalities.as_slice())
-    }
+/// The variables of the relations that have these tables, under these equalities.
+pub(crate) fn variables(
+    alloc: Global,
+    tables: &[Decl],
+    table_of: &[u32],
+    equalities: &[Equality],
+) -> Result<Variables, Memory>
+    requires narrow { AreNarrow tables.now }
+    requires widths { AreWidths (widths_in tables.now table_of.now) }
+    requires equalities { AreEqualities (widths_in tables.now table_of.now) equalities.now }
+    ensures { IfOk result (λ known. AreQueryVariables (widths_in tables.now table_of.now) equalities.now known) }
+{
+    let widths = widths(alloc, tables, table_of)?;
+    Variables::find(alloc, &widths, equalities)
 }
 
 // How many columns each relation has.
-fn widths(alloc: Global, bound: &Bound) -> Result<Vec<u32>, Memory>
-    ensures { IfOk result (λ widths. widths.items ≡ widths_of bound.now) }
+fn widths(alloc: Global, tables: &[Decl], table_of: &[u32]) -> Result<Vec<u32>, Memory>
+    requires { AreNarrow tables.now }
+    ensures { IfOk result (λ widths. widths.items ≡ widths_in tables.now table_of.now) }
 {
     let mut widths = Vec::new(alloc);
-    'relations: for relation in 0..bound.relations() {
-        if widths.push(width(bound, relation)).is_err() {
+    'relations: for relation in 0..table_of.len() {
+        if widths.push(width(tables, table_of[relation])).is_err() {
             return Err(Memory);
         }
     }
     Ok(widths)
 }
 
-fn width(bound: &Bound, relation: u32) -> u32
-    requires { relation < length bound.now.table_of }
-    ensures { result ≡ length (columns_of bound.now relation) }
+// How many columns a table has.
+fn width(tables: &[Decl], table: u32) -> u32
+    requires { AreNarrow tables.now }
+    ensures { result ≡ length (columns_in tables.now table) }
 {
-    bound
-        .decl(bound.table_of(relation))
-        .columns
-        .as_slice()
-        .len() as u32
+    match tables.get(table as usize) {
+        Some(decl) => decl.columns.as_slice().len() as u32,
+        None => 0,
+    }
 }

@@ -2,14 +2,13 @@
 ghost use Rattle.std.specs.Prelude.{◌≡◌, [], ◌∷◌, ◌++◌, IfOk, OnOk};
 ghost use Rattle.std.specs.List.{flat_map};
 ghost use Rattle.std.specs.Option.{option_to_list};
-ghost use Rattle.binder.specs.Scope.{IsWithinLimits, scope_of};
-ghost use Rattle.binder.specs.Conjuncts.{columns_of_operands, conjuncts_of, parts_of};
+ghost use Rattle.script_rules.specs.Scope.{IsWithinLimits, scope_of};
+ghost use Rattle.script_rules.specs.Conjuncts.{columns_of_operands, conjuncts_of, parts_of};
 ghost use Rattle.binder.specs.Binding.{equality_between, equality_of};
 
-use crate::columns::Equality;
-use crate::conjuncts::is_equality;
-use crate::operands::column_of;
+use column_classes::Equality;
 use rpt_base::Memory;
+use script_rules::{column_of, is_equality};
 use sql_text::{Cond, Expr, Script};
 use std::alloc::Global;
 

@@ -1,5 +1,5 @@
 -- A table as the list of its rows.
-use Rattle.std.specs.Prelude.{ℕ, ◌&&◌, Bool, true, false, List, [], ◌∷◌, Option, slice_get, option_and_then}
+use Rattle.std.specs.Prelude.{ℕ, ◌&&◌, Bool, true, false, List, [], ◌∷◌, map, Option, slice_get, option_and_then}
 use Rattle.std.specs.Str.{IsUtf8}
 use Rattle.rpt_base.specs.declared.values.Cell.{Cell}
 use Rattle.rpt_base.specs.declared.values.Cell.TheVariants as cell
@@ -7,6 +7,7 @@ use Rattle.rpt_base.specs.declared.values.ColumnType.{ColumnType}
 use Rattle.rpt_base.specs.declared.values.ColumnType.TheVariants as kind
 use Rattle.rpt_base.specs.declared.values.Value.{Value}
 use Rattle.rpt_base.specs.declared.values.Value.TheVariants as value
+use Rattle.column_table.specs.declared.declared.ColumnDecl.{ColumnDecl}
 
 -- the types of a table's columns, and its rows in order, each with a value for each column
 pub record Rows : Type 0 where
@@ -18,6 +19,15 @@ pub record Filling : Type 0 where
   pub kinds : List ColumnType
   pub rows : List (List Value)
   pub started : List Value
+
+-- the types of declared columns
+abbrev pub types_of : List ColumnDecl → List ColumnType
+types_of columns = map (λ (c : ColumnDecl). c.kind) columns
+
+-- the type of a value
+abbrev pub type_of_value : Value → ColumnType
+type_of_value (value.Int z) = kind.Int
+type_of_value (value.Text text) = kind.Text
 
 -- the value is of this type
 abbrev pub has_type : ColumnType → Value → Bool

@@ -8,11 +8,11 @@ use Rattle.std.proofs.lemmas.Bool.{eq-eqb, le-leb, lt-leb}
 use Rattle.rpt_base.specs.declared.values.ColumnType.{ColumnType}
 use Rattle.rpt_base.specs.declared.values.ColumnType.TheVariants as kind
 use Rattle.rpt_base.specs.declared.values.Value.{Value}
-use Rattle.column_table.specs.Table.{Filling}
+use Rattle.column_table.specs.Table.{Filling, types_of}
 use Rattle.column_table.specs.declared.declared.ColumnDecl.{ColumnDecl}
 use Rattle.csv_load.specs.declared.refusal.LoadError.{LoadError}
 use Rattle.csv_load.specs.declared.refusal.LoadError.TheVariants.{Header, Ragged, BadField, NotUtf8, TooManyRows, Memory}
-use Rattle.csv_load.specs.FileTable.{cell_of, cells_of, fault_of, field_of, is_named, kinds_of, place_of, places_of, row_of, rows_of, value_of}
+use Rattle.csv_load.specs.FileTable.{cell_of, cells_of, fault_of, field_of, is_named, place_of, places_of, row_of, rows_of, value_of}
 use Rattle.csv_load.specs.Loads.{PutsField, Refuses}
 use Rattle.csv_load.proofs.FirstRefusals.{behind, behind-none, made, made-at, made-end, made-length, made-more, made-next, made-refused, made-stop}
 
@@ -83,16 +83,16 @@ refuses-fault Y said kind.Text row column e is same = subst (λ (r : LoadError).
 
 -- the type of the next column
 pub filled-kind : (columns : List ColumnDecl) (header : List (List ℕ)) (row : ℕ) (fields : List (List ℕ)) (old new : Filling) (n : ℕ) (d : ColumnDecl) → HasFilled columns header row fields old new n
-    → old.kinds ≡ kinds_of columns → n < length columns → slice_get new.kinds (length new.started) ≡ Some (get_or columns n d).kind
+    → old.kinds ≡ types_of columns → n < length columns → slice_get new.kinds (length new.started) ≡ Some (get_or columns n d).kind
 filled-kind columns header row fields old new n d filled kinds lt =
-    let same : new.kinds ≡ kinds_of columns = ap (λ (f : Filling). f.kinds) filled.others ∙ kinds in
+    let same : new.kinds ≡ types_of columns = ap (λ (f : Filling). f.kinds) filled.others ∙ kinds in
     rw (filled.count, same) (slice_get-map (λ (c : ColumnDecl). c.kind) columns n ∙ ap (option_map (λ (c : ColumnDecl). c.kind)) (slice_get-get_or columns n d lt))
 
 -- of the records the first n have the rows, and these are left; no row is started
 pub record HasRows (limit : ℕ) (columns : List ColumnDecl) (header : List (List ℕ)) (all left : List (List (List ℕ))) (table : Filling) (n : ℕ) : Type 0 where
   pub rows : rows_of limit columns header all ≡ behind table.rows (made (row_of limit columns header) n left)
   pub count : length table.rows ≡ n
-  pub kinds : table.kinds ≡ kinds_of columns
+  pub kinds : table.kinds ≡ types_of columns
   pub started : table.started ≡ []
 
 module _ (limit : ℕ) (columns : List ColumnDecl) (header : List (List ℕ)) (all left : List (List (List ℕ))) (table : Filling) (n : ℕ) (has : HasRows limit columns header all left table n) where
@@ -147,5 +147,5 @@ cells_of-length columns header row fields values e = by (length fields == length
     by false q = cc
 
 -- no record was read
-pub rows-none : (limit : ℕ) (columns : List ColumnDecl) (header : List (List ℕ)) (all : List (List (List ℕ))) (table : Filling) → table ≡ record { kinds = kinds_of columns; rows = []; started = [] } → HasRows limit columns header all all table 0
+pub rows-none : (limit : ℕ) (columns : List ColumnDecl) (header : List (List ℕ)) (all : List (List (List ℕ))) (table : Filling) → table ≡ record { kinds = types_of columns; rows = []; started = [] } → HasRows limit columns header all all table 0
 rows-none limit columns header all table e = rw e (record { rows = behind-none (rows_of limit columns header all); count = refl; kinds = refl; started = refl })

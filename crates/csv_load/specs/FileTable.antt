@@ -96,7 +96,3 @@ file_table limit columns bytes = under (file_records bytes)
     under : List (List (List ℕ)) → Result (List (List Value)) LoadError
     under [] = rows_under limit columns [] []
     under (header ∷ records) = rows_under limit columns header records
-
--- the types of the declared columns
-abbrev pub kinds_of : List ColumnDecl → List ColumnType
-kinds_of columns = map (λ (c : ColumnDecl). c.kind) columns

@@ -2,7 +2,8 @@
 ghost use Rattle.std.specs.Prelude.{◌≡◌, ◌==◌, ◌≤◌, [], IfOk, OnOk, length};
 ghost use Rattle.rpt_base.specs.declared.limits.TheConstants.{MAX_COLUMNS};
 ghost use Rattle.csv.specs.Records.{fields_of};
-ghost use Rattle.csv_load.specs.FileTable.{cells_of, is_named, kinds_of, place_in, places_of as places_said};
+ghost use Rattle.csv_load.specs.FileTable.{cells_of, is_named, place_in, places_of as places_said};
+ghost use Rattle.column_table.specs.Table.{types_of};
 ghost use Rattle.csv_load.specs.Loads.{Refuses};
 
 use crate::fields::{fault, put_field};
@@ -69,7 +70,7 @@ impl<'a> RowLayout<'a> {
         fields: &ByteRecord,
         builder: &mut TableBuilder,
     ) -> Result<(), LoadError>
-        requires kinds { builder.old.kinds ≡ kinds_of self.now.columns }
+        requires kinds { builder.old.kinds ≡ types_of self.now.columns }
         requires none_yet { builder.old.started ≡ [] }
         ensures cells { OnOk result (cells_of self.now.columns self.now.header row (fields_of fields.now) ≡ Ok builder.new.started) }
         ensures others { OnOk result (builder.new ≡ record builder.old { started = builder.new.started }) }

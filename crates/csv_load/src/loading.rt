@@ -1,7 +1,8 @@
 // A table from the bytes of its file.
 ghost use Rattle.std.specs.Prelude.{◌≡◌, ◌≤◌, [], IfOk, OnOk, length};
 ghost use Rattle.rpt_base.specs.declared.limits.TheConstants.{MAX_COLUMNS, MAX_ROWS};
-ghost use Rattle.csv_load.specs.FileTable.{file_table, kinds_of, rows_of};
+ghost use Rattle.csv_load.specs.FileTable.{file_table, rows_of};
+ghost use Rattle.column_table.specs.Table.{types_of};
 ghost use Rattle.csv_load.specs.Loads.{Refuses};
 
 use crate::layout::RowLayout;
@@ -22,7 +23,7 @@ use std::alloc::Global;
 pub fn load(alloc: Global, bytes: &[u8], decl: &Decl) -> Result<Table, LoadError>
     requires { length decl.now.columns ≤ MAX_COLUMNS }
     ensures rows { IfOk result (λ table. file_table MAX_ROWS decl.now.columns bytes.now ≡ Ok table.rows) }
-    ensures kinds { IfOk result (λ table. table.kinds ≡ kinds_of decl.now.columns) }
+    ensures kinds { IfOk result (λ table. table.kinds ≡ types_of decl.now.columns) }
     ensures refused { Refuses (file_table MAX_ROWS decl.now.columns bytes.now) result }
 {
     table_within(alloc, MAX_ROWS, decl.columns.as_slice(), bytes)
@@ -38,7 +39,7 @@ pub(crate) fn table_within(
     requires columns { length columns.now ≤ MAX_COLUMNS }
     requires limit { limit ≤ MAX_ROWS }
     ensures rows { IfOk result (λ table. file_table limit columns.now bytes.now ≡ Ok table.rows) }
-    ensures kinds { IfOk result (λ table. table.kinds ≡ kinds_of columns.now) }
+    ensures kinds { IfOk result (λ table. table.kinds ≡ types_of columns.now) }
     ensures refused { Refuses (file_table limit columns.now bytes.now) result }
 {
     let mut reader = RecordReader::new(alloc, bytes);
@@ -63,14 +64,14 @@ pub(crate) fn table_within(
 // A table with these columns and without rows.
 fn empty(alloc: Global, columns: &[ColumnDecl]) -> Result<TableBuilder, Memory>
     requires { length columns.now ≤ MAX_COLUMNS }
-    ensures { IfOk result (λ b. b ≡ record { kinds = kinds_of columns.now; rows = []; started = [] }) }
+    ensures { IfOk result (λ b. b ≡ record { kinds = types_of columns.now; rows = []; started = [] }) }
 {
     let kinds = kinds(alloc, columns)?;
     TableBuilder::new(alloc, kinds.as_slice())
 }
 
 fn kinds(alloc: Global, columns: &[ColumnDecl]) -> Result<Vec<ColumnType>, Memory>
-    ensures { IfOk result (λ kinds. kinds.items ≡ kinds_of columns.now) }
+    ensures { IfOk result (λ kinds. kinds.items ≡ types_of columns.now) }
 {
     match columns.iter().map(|c| c.kind).collect(alloc) {
         Ok(kinds) => Ok(kinds),
@@ -87,9 +88,9 @@ fn fill_rows(
     builder: &mut TableBuilder,
 ) -> Result<(), LoadError>
     requires limit { limit ≤ MAX_ROWS }
-    requires empty { builder.old ≡ record { kinds = kinds_of layout.now.columns; rows = []; started = [] } }
+    requires empty { builder.old ≡ record { kinds = types_of layout.now.columns; rows = []; started = [] } }
     ensures rows { OnOk result (rows_of limit layout.now.columns layout.now.header reader.old ≡ Ok builder.new.rows) }
-    ensures kinds { OnOk result (builder.new.kinds ≡ kinds_of layout.now.columns) }
+    ensures kinds { OnOk result (builder.new.kinds ≡ types_of layout.now.columns) }
     ensures refused { Refuses (rows_of limit layout.now.columns layout.now.header reader.old) result }
 {
     let mut record = ByteRecord::new(alloc);

@@ -10,6 +10,7 @@ use Rattle.rpt_base.specs.declared.values.ColumnType.{ColumnType}
 use Rattle.rpt_base.specs.declared.values.ColumnType.TheVariants as kind
 use Rattle.rpt_base.specs.declared.values.Value.{Value}
 use Rattle.rpt_base.specs.declared.values.Value.TheVariants as value
+use Rattle.column_table.specs.Table.{type_of_value}
 use Rattle.predicate.specs.declared.tree.Operand.{Operand}
 use Rattle.predicate.specs.declared.tree.Operand.TheVariants as operand
 use Rattle.predicate.specs.declared.tree.Op.{Op}
@@ -19,15 +20,10 @@ use Rattle.predicate.specs.declared.tree.Pred.TheOpen.{Pred-F}
 use Rattle.predicate.specs.declared.tree.Pred.TheFolds.{fold-Pred}
 use Rattle.predicate.specs.Like.{is_like}
 
--- the type of a value
-abbrev pub type_of : Value → ColumnType
-type_of (value.Int z) = kind.Int
-type_of (value.Text text) = kind.Text
-
 -- the type of an operand, if its column is one of the table's
 abbrev pub operand_type : List ColumnType → Operand → Option ColumnType
 operand_type kinds (operand.Column column) = slice_get kinds column
-operand_type kinds (operand.Literal v) = Some (type_of v)
+operand_type kinds (operand.Literal v) = Some (type_of_value v)
 
 -- the column that an operand names is one of the table's
 abbrev pub HasColumn : List ColumnType → Operand → Type 0

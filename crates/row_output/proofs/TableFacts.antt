@@ -4,9 +4,9 @@ use Rattle.std.specs.Prelude.{slice_get, slice_index}
 use Rattle.std.proofs.lemmas.List.{get_or_read, length-map}
 use Rattle.std.proofs.lemmas.Option.{get_or_from_slice_get}
 use Rattle.std.proofs.Math.ListN.{get_or-map}
-use Rattle.column_table.specs.Table.{Rows}
+use Rattle.column_table.specs.Table.{Rows, types_of}
 use Rattle.column_table.specs.declared.declared.Decl.{Decl}
-use Rattle.binder.specs.Query.{Query, kinds_of, types_of}
+use Rattle.binder.specs.Query.{Query, kinds_of}
 use Rattle.binder.specs.Answer.{AreTables, table_at}
 
 -- a relation's table has the columns that the query declares

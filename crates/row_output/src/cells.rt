@@ -11,10 +11,10 @@ use rpt_base::Cell;
 
 /// The table of a relation.
 pub(crate) fn table_at<'t>(bound: &Bound, tables: &'t [Table], relation: u32) -> &'t Table
-    requires tables { AreTables bound.now tables.now }
-    requires relation { relation < length bound.now.table_of }
-    ensures table { result.now ≡ table_at bound.now tables.now relation }
-    ensures kinds { result.now.kinds ≡ kinds_of bound.now relation }
+    requires tables { AreTables bound.now.query tables.now }
+    requires relation { relation < length bound.now.query.table_of }
+    ensures table { result.now ≡ table_at bound.now.query tables.now relation }
+    ensures kinds { result.now.kinds ≡ kinds_of bound.now.query relation }
 {
     &tables[bound.table_of(relation) as usize]
 }
@@ -26,10 +26,10 @@ pub(crate) fn cell_at<'t>(
     numbers: &[u32],
     column: ColumnRef,
 ) -> Cell<'t>
-    requires tables { AreTables bound.now tables.now }
-    requires numbers { AreRowNumbers bound.now tables.now numbers.now }
-    requires column { Names bound.now column }
-    ensures { value_of result ≡ value_at bound.now tables.now numbers.now column }
+    requires tables { AreTables bound.now.query tables.now }
+    requires numbers { AreRowNumbers bound.now.query tables.now numbers.now }
+    requires column { Names bound.now.query column }
+    ensures { value_of result ≡ value_at bound.now.query tables.now numbers.now column }
 {
     let table = table_at(bound, tables, column.relation);
     table.cell(numbers[column.relation as usize], column.column)

@@ -29,9 +29,9 @@ pub fn text(
     bound: &Bound,
     tables: &[Table],
 ) -> Result<Vec<u8>, Memory>
-    requires tables { AreTables bound.now tables.now }
-    requires rows { All (AreRowNumbers bound.now tables.now) answer.now.rows }
-    ensures { IfOk result (λ text. text.items ≡ output_text bound.now tables.now answer.now.rows) }
+    requires tables { AreTables bound.now.query tables.now }
+    requires rows { All (AreRowNumbers bound.now.query tables.now) answer.now.rows }
+    ensures { IfOk result (λ text. text.items ≡ output_text bound.now.query tables.now answer.now.rows) }
 {
     let mut writer = WriterBuilder::new().from_writer(Vec::new(alloc));
     let mut fields = ByteRecord::new(alloc);
@@ -52,9 +52,9 @@ fn write_rows(
     bound: &Bound,
     tables: &[Table],
 ) -> Result<(), Memory>
-    requires tables { AreTables bound.now tables.now }
-    requires rows { All (AreRowNumbers bound.now tables.now) answer.now.rows }
-    ensures { (text : List ℕ) → HasWritten writer.old text → OnOk result (HasWritten writer.new (text ++ rows_text bound.now tables.now answer.now.rows)) }
+    requires tables { AreTables bound.now.query tables.now }
+    requires rows { All (AreRowNumbers bound.now.query tables.now) answer.now.rows }
+    ensures { (text : List ℕ) → HasWritten writer.old text → OnOk result (HasWritten writer.new (text ++ rows_text bound.now.query tables.now answer.now.rows)) }
 {
     'rows: for row in 0..answer.count() {
         write_row(writer, fields, answer.row(row), bound, tables)?;
@@ -69,9 +69,9 @@ fn write_row(
     bound: &Bound,
     tables: &[Table],
 ) -> Result<(), Memory>
-    requires tables { AreTables bound.now tables.now }
-    requires numbers { AreRowNumbers bound.now tables.now numbers.now }
-    ensures { (text : List ℕ) → HasWritten writer.old text → OnOk result (HasWritten writer.new (text ++ rows_text bound.now tables.now (numbers.now ∷ []))) }
+    requires tables { AreTables bound.now.query tables.now }
+    requires numbers { AreRowNumbers bound.now.query tables.now numbers.now }
+    ensures { (text : List ℕ) → HasWritten writer.old text → OnOk result (HasWritten writer.new (text ++ rows_text bound.now.query tables.now (numbers.now ∷ []))) }
 {
     put_cells(fields, numbers, bound, tables)?;
     write(writer, fields)
@@ -105,9 +105,9 @@ fn put_cells(
     bound: &Bound,
     tables: &[Table],
 ) -> Result<(), Memory>
-    requires tables { AreTables bound.now tables.now }
-    requires numbers { AreRowNumbers bound.now tables.now numbers.now }
-    ensures { OnOk result (fields_of fields.new ≡ cells bound.now tables.now bound.now.output numbers.now) }
+    requires tables { AreTables bound.now.query tables.now }
+    requires numbers { AreRowNumbers bound.now.query tables.now numbers.now }
+    ensures { OnOk result (fields_of fields.new ≡ cells bound.now.query tables.now bound.now.query.output numbers.now) }
 {
     fields.clear();
     let columns = bound.output();

@@ -11,3 +11,6 @@ pub const MAX_ROWS: u32 = 8_388_608;
 
 /// The columns of a table.
 pub const MAX_COLUMNS: u32 = 64;
+
+/// The relations of a query.
+pub const MAX_RELATIONS: u32 = 16;

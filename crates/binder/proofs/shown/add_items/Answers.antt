@@ -1,5 +1,5 @@
 use Rattle.std.proofs.Common.{arith}
-use Rattle.binder.specs.Scope.{scope_of}
+use Rattle.script_rules.specs.Scope.{scope_of}
 use Rattle.binder.specs.Binding.{item_output}
 use Rattle.binder.proofs.GatherFacts.{gathered-end}
 use Rattle.binder.proofs.shown.add_items.Goals as goal

@@ -1,4 +1,4 @@
-use Rattle.binder.specs.Scope.{scope_of}
+use Rattle.script_rules.specs.Scope.{scope_of}
 use Rattle.binder.specs.Binding.{item_output}
 use Rattle.binder.proofs.GatherFacts.{IsGathered}
 use Rattle.binder.proofs.shown.add_items.Given as goal

@@ -1,9 +1,9 @@
 use Rattle.std.proofs.Common.{◌∙◌, ◌++◌, ◌≤◌, [], ◌∷◌, length, map, ap, arith}
 use Rattle.std.specs.List.{enumerate_from}
 use Rattle.rpt_base.specs.declared.limits.TheConstants.{MAX_COLUMNS}
-use Rattle.binder.specs.Scope.{columns_of}
+use Rattle.script_rules.specs.Scope.{columns_of}
 use Rattle.binder.proofs.GatherFacts.{numbered-end}
-use Rattle.binder.proofs.ScopeFacts.{columns_within}
+use Rattle.script_rules.proofs.ScopeFacts.{columns_within}
 use Rattle.binder.proofs.ShownFacts.{shown_column, shown-columns}
 use Rattle.binder.proofs.shown.add_relation.Goals as goal
 

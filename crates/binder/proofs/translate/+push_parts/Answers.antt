@@ -1,4 +1,4 @@
-use Rattle.binder.proofs.CondFacts.{parts_of-And, parts_of-other}
+use Rattle.script_rules.proofs.CondFacts.{parts_of-And, parts_of-other}
 use Rattle.binder.proofs.translate.+push_parts.Goals as goal
 
 pub push_parts-returns-in-And : goal.push_parts-returns-in-And

@@ -1,6 +1,6 @@
 use Rattle.std.proofs.Common.{◌∙◌, ap, sym}
 use Rattle.predicate.specs.declared.tree.Pred.TheVariants as pred
-use Rattle.binder.specs.Scope.{scope_of}
+use Rattle.script_rules.specs.Scope.{scope_of}
 use Rattle.binder.proofs.PredFacts.{pred_of-And, pred_of-Or, pred_of-Not, pred_of-Compare, pred_of-Between, pred_of-InList, pred_of-Like}
 use Rattle.binder.proofs.translate.+translated.Goals as goal
 

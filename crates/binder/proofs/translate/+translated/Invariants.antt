@@ -1,5 +1,5 @@
 use Rattle.std.proofs.Common.{◌≡◌, map, take}
-use Rattle.binder.specs.Scope.{scope_of}
+use Rattle.script_rules.specs.Scope.{scope_of}
 use Rattle.binder.specs.Binding.{pred_of}
 use Rattle.binder.proofs.translate.+translated.Given as goal
 

@@ -1,7 +1,7 @@
 use Rattle.std.proofs.Common.{◌∙◌, sym, zero-add}
 use Rattle.std.proofs.lemmas.List.FromFn.{map-range_with_len_more}
-use Rattle.binder.specs.Scope.{scope_of}
-use Rattle.binder.specs.Conjuncts.{conjuncts_of}
+use Rattle.script_rules.specs.Scope.{scope_of}
+use Rattle.script_rules.specs.Conjuncts.{conjuncts_of}
 use Rattle.binder.specs.Binding.{condition_of}
 use Rattle.binder.proofs.translate.conditions.Goals as goal
 

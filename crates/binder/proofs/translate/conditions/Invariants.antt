@@ -1,7 +1,7 @@
 use Rattle.std.proofs.Common.{◌≡◌, map}
 use Rattle.std.specs.List.{range_with_len}
-use Rattle.binder.specs.Scope.{scope_of}
-use Rattle.binder.specs.Conjuncts.{conjuncts_of}
+use Rattle.script_rules.specs.Scope.{scope_of}
+use Rattle.script_rules.specs.Conjuncts.{conjuncts_of}
 use Rattle.binder.specs.Binding.{condition_of}
 use Rattle.binder.proofs.translate.conditions.Given as goal
 

@@ -2,7 +2,7 @@ use Rattle.std.proofs.Common.{◌≡◌, map, take}
 use Rattle.predicate.specs.declared.tree.Operand.TheVariants as operand
 use Rattle.predicate.specs.declared.tree.Op.TheVariants as op
 use Rattle.predicate.specs.declared.tree.Pred.TheVariants as pred
-use Rattle.binder.specs.Scope.{scope_of}
+use Rattle.script_rules.specs.Scope.{scope_of}
 use Rattle.binder.specs.Binding.{operand_of}
 use Rattle.binder.proofs.translate.in_list.Given as goal
 

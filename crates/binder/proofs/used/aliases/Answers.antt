@@ -1,5 +1,5 @@
 use Rattle.std.proofs.Common.{◌∙◌, map, ap, arith}
-use Rattle.binder.specs.Scope.{name_of}
+use Rattle.script_rules.specs.Scope.{name_of}
 use Rattle.binder.proofs.GatherFacts.{mapped-end}
 use Rattle.binder.proofs.used.aliases.Goals as goal
 

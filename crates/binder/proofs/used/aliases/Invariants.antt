@@ -1,4 +1,4 @@
-use Rattle.binder.specs.Scope.{name_of}
+use Rattle.script_rules.specs.Scope.{name_of}
 use Rattle.binder.proofs.GatherFacts.{IsMapped}
 use Rattle.binder.proofs.used.aliases.Given as goal
 

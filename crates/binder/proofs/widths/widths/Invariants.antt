@@ -1,7 +1,7 @@
-use Rattle.std.proofs.Common.{◌≡◌, length, map}
-use Rattle.std.specs.List.{range_with_len}
-use Rattle.binder.specs.Query.{columns_of}
+use Rattle.std.proofs.Common.{◌≡◌}
+use Rattle.std.specs.Prelude.{take}
+use Rattle.binder.specs.Query.{widths_in}
 use Rattle.binder.proofs.widths.widths.Given as goal
 
 abbrev pub invariant-relations : goal.invariant-relations
-invariant-relations l = l.widths.items ≡ map (λ r. length (columns_of l.bound r)) (range_with_len 0 l.relation)
+invariant-relations l = l.widths.items ≡ widths_in l.tables (take l.relation l.table_of)

@@ -2,12 +2,12 @@ use Rattle.std.proofs.Common.{◌≡◌, ◌∙◌, ◌++◌, ap, sym, subst, ar
 use Rattle.std.specs.Prelude.{OnOk}
 use Rattle.std.specs.List.{flat_map}
 use Rattle.sql_text.specs.declared.tree.Cond.{Cond}
-use Rattle.binder.specs.declared.columns.Equality.{Equality}
-use Rattle.binder.specs.Scope.{scope_of}
-use Rattle.binder.specs.Conjuncts.{parts_of}
+use Rattle.column_classes.specs.declared.columns.Equality.{Equality}
+use Rattle.script_rules.specs.Scope.{scope_of}
+use Rattle.script_rules.specs.Conjuncts.{parts_of}
 use Rattle.binder.specs.Binding.{equality_of}
-use Rattle.binder.proofs.CondFacts.{parts_of-And, parts_of-other}
-use Rattle.binder.proofs.ConjunctFacts.{flat_map-flat_map}
+use Rattle.script_rules.proofs.CondFacts.{parts_of-And, parts_of-other}
+use Rattle.script_rules.proofs.ConjunctFacts.{flat_map-flat_map}
 use Rattle.binder.proofs.EqualityFacts.{given_in-alone}
 use Rattle.binder.proofs.GatherFacts.{gathered-end}
 use Rattle.binder.proofs.written.+add_parts.Goals as goal

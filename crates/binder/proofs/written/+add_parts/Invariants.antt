@@ -1,6 +1,6 @@
 use Rattle.std.specs.List.{flat_map}
-use Rattle.binder.specs.Scope.{scope_of}
-use Rattle.binder.specs.Conjuncts.{parts_of}
+use Rattle.script_rules.specs.Scope.{scope_of}
+use Rattle.script_rules.specs.Conjuncts.{parts_of}
 use Rattle.binder.specs.Binding.{equality_of}
 use Rattle.binder.proofs.GatherFacts.{IsGathered}
 use Rattle.binder.proofs.written.+add_parts.Given as goal

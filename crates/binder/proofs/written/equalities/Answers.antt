@@ -2,8 +2,8 @@ use Rattle.std.proofs.Common.{◌∙◌, ◌++◌, [], ap, sym, arith, List}
 use Rattle.std.specs.List.{flat_map}
 use Rattle.std.specs.Option.{option_to_list}
 use Rattle.sql_text.specs.declared.tree.Source.{Source}
-use Rattle.binder.specs.declared.columns.Equality.{Equality}
-use Rattle.binder.specs.Scope.{scope_of}
+use Rattle.column_classes.specs.declared.columns.Equality.{Equality}
+use Rattle.script_rules.specs.Scope.{scope_of}
 use Rattle.binder.specs.Binding.{equality_of}
 use Rattle.binder.proofs.EqualityFacts.{given_in, given_in-script}
 use Rattle.binder.proofs.GatherFacts.{gathered-end}

@@ -1,7 +1,7 @@
 use Rattle.std.specs.Prelude.{[]}
 use Rattle.std.specs.Option.{option_to_list}
 use Rattle.sql_text.specs.declared.tree.Source.{Source}
-use Rattle.binder.specs.Scope.{scope_of}
+use Rattle.script_rules.specs.Scope.{scope_of}
 use Rattle.binder.specs.Binding.{equality_of}
 use Rattle.binder.proofs.EqualityFacts.{given_in}
 use Rattle.binder.proofs.GatherFacts.{IsGathered}

@@ -1,8 +1,8 @@
 use Rattle.std.proofs.Common.{◌≡◌, ◌∙◌, [], ◌∷◌, ap, sym}
-use Rattle.binder.specs.Scope.{scope_of}
-use Rattle.binder.specs.Conjuncts.{columns_in, columns_of_operands}
+use Rattle.script_rules.specs.Scope.{scope_of}
+use Rattle.script_rules.specs.Conjuncts.{columns_in, columns_of_operands}
 use Rattle.binder.specs.Binding.{equality_between}
-use Rattle.binder.proofs.CondFacts.{columns_in-Compare, is_equality-other}
+use Rattle.script_rules.proofs.CondFacts.{columns_in-Compare, is_equality-other}
 use Rattle.binder.proofs.EqualityFacts.{equality_of-none, equality_of-some}
 use Rattle.binder.proofs.written.equality_of.Goals as goal
 

@@ -4,4 +4,4 @@ use Rattle.row_output.specs.OutputText.{cells}
 use Rattle.row_output.proofs.output.put_cells.Given as goal
 
 abbrev pub invariant-loop-column : goal.invariant-loop-column
-invariant-loop-column l = (fields_of l.fields ≡ cells l.bound l.tables (take l.column-index l.columns) l.numbers) × (partial_of l.fields ≡ [])
+invariant-loop-column l = (fields_of l.fields ≡ cells l.bound.query l.tables (take l.column-index l.columns) l.numbers) × (partial_of l.fields ≡ [])

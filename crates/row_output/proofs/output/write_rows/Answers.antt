@@ -9,11 +9,11 @@ pub rows-preserved : goal.rows-preserved
 rows-preserved c text h =
     let rows = c.args.answer.now.rows in
     let at : get_or rows c.rows.row [] ≡ c.row.result.now = get_or_from_slice_get rows c.rows.row c.row.result.now [] c.row.ensures in
-    let more = rows_text-more c.args.bound.now c.args.tables.now rows c.rows.row text (omega arith) in
+    let more = rows_text-more c.args.bound.now.query c.args.tables.now rows c.rows.row text (omega arith) in
     HasWritten-is _ _ _ (rw at at more) (c.in_ok-write_row.ensures _ (c.rows.invariant text h))
 
 pub returns : goal.returns
 returns c text h =
     let gone : length c.args.answer.now.rows ≤ c.rows.row = omega arith in
     let all = take_all c.rows.row c.args.answer.now.rows gone in
-    HasWritten-is _ _ _ (ap (λ rows. text ++ rows_text c.args.bound.now c.args.tables.now rows) all) (c.rows.invariant text h)
+    HasWritten-is _ _ _ (ap (λ rows. text ++ rows_text c.args.bound.now.query c.args.tables.now rows) all) (c.rows.invariant text h)

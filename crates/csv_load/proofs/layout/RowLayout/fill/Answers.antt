@@ -2,7 +2,8 @@ use Rattle.std.proofs.Common.{◌≡◌, ◌∙◌, arith, subst, sym}
 use Rattle.std.specs.Prelude.{Err}
 use Rattle.std.proofs.lemmas.Bool.{eqb-true}
 use Rattle.csv.specs.Records.{fields_of}
-use Rattle.csv_load.specs.FileTable.{cells_of, kinds_of, place_of}
+use Rattle.csv_load.specs.FileTable.{cells_of, place_of}
+use Rattle.column_table.specs.Table.{types_of}
 use Rattle.csv_load.specs.Layouts.{FileLayout}
 use Rattle.csv_load.specs.Loads.{Refuses}
 use Rattle.csv_load.proofs.FirstRefusals.{made-length}
@@ -14,7 +15,7 @@ index-requires c = omega (arith, made-length (place_of (fields_of c.self.inside.
 
 pub put_field-requires : goal.put_field-requires
 put_field-requires c =
-    let kinds : c.args.builder.now.kinds ≡ kinds_of c.self.inside.columns.now = subst (λ (l : FileLayout). c.args.builder.now.kinds ≡ kinds_of l.columns) (sym c.self.view_is) c.requires.kinds in
+    let kinds : c.args.builder.now.kinds ≡ types_of c.self.inside.columns.now = subst (λ (l : FileLayout). c.args.builder.now.kinds ≡ types_of l.columns) (sym c.self.view_is) c.requires.kinds in
     filled-kind c.self.inside.columns.now (fields_of c.self.inside.header) c.args.row (fields_of c.args.fields.now) c.args.builder.now c.columns.builder c.columns.column c.index-self-column.result
     c.columns.invariant kinds c.columns-test.true
 

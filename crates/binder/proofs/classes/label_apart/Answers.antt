@@ -1,5 +1,0 @@
-use Rattle.binder.proofs.LabelFacts.{own-none}
-use Rattle.binder.proofs.classes.label_apart.Goals as goal
-
-pub relations-init : goal.relations-init
-relations-init c = rw c.new-places.ensures.items (own-none c.args.widths.now)

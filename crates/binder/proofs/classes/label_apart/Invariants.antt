@@ -1,5 +1,0 @@
-use Rattle.binder.specs.Labels.{AreOwnLabels}
-use Rattle.binder.proofs.classes.label_apart.Given as goal
-
-abbrev pub invariant-relations : goal.invariant-relations
-invariant-relations l = AreOwnLabels l.widths l.relation 0 l.places.items

@@ -1,5 +1,0 @@
-use Rattle.binder.specs.Labels.{AreOwnLabels}
-use Rattle.binder.proofs.classes.label_relation.Given as goal
-
-abbrev pub invariant-columns : goal.invariant-columns
-invariant-columns l = AreOwnLabels l.widths l.relation l.column l.places.items

@@ -1,6 +1,0 @@
-use Rattle.std.proofs.Common.{◌≡◌, ◌++◌, drop, map, take}
-use Rattle.binder.specs.Labels.{merged}
-use Rattle.binder.proofs.classes.merge.Given as goal
-
-abbrev pub invariant-loop-place : goal.invariant-loop-place
-invariant-loop-place l = (l.places ≡ map (merged l.left l.right) (take l.place-index l.initial.places) ++ drop l.place-index l.initial.places)

@@ -1,7 +1,0 @@
-use Rattle.binder.specs.Scope.{scope_of}
-use Rattle.binder.specs.Faults.{cond_faults}
-use Rattle.binder.proofs.FaultFacts.{IsNoted}
-use Rattle.binder.proofs.conditions.+in_cond.Given as goal
-
-abbrev pub invariant-in_conds-loop-cond : goal.invariant-in_conds-loop-cond
-invariant-in_conds-loop-cond l = IsNoted (cond_faults (scope_of l.script)) l.conds l.fn.found l.found l.cond-index

@@ -1,7 +1,0 @@
-use Rattle.binder.specs.Scope.{scope_of}
-use Rattle.binder.specs.Conjuncts.{columns_in}
-use Rattle.binder.proofs.NamedFacts.{IsOfFrom}
-use Rattle.binder.proofs.named.+are_of.Given as goal
-
-abbrev pub invariant-all_are_of-loop-cond : goal.invariant-all_are_of-loop-cond
-invariant-all_are_of-loop-cond l = IsOfFrom (columns_in (scope_of l.script)) l.conds l.relation l.cond-index

@@ -1,6 +1,0 @@
-use Rattle.std.proofs.Common.{◌∙◌, not, ap, sym}
-use Rattle.binder.proofs.TypeFacts.{differ-values}
-use Rattle.binder.proofs.operands.has_other_type.Goals as goal
-
-pub returns : goal.returns
-returns c = ap not c.are_all.ensures ∙ sym (differ-values c.args.first c.args.values.now)

@@ -1,5 +1,0 @@
-use Rattle.binder.proofs.ScopeFacts.{IsFound}
-use Rattle.binder.proofs.scope.meaning.Given as goal
-
-abbrev pub invariant-loop-number : goal.invariant-loop-number
-invariant-loop-number l = IsFound l.script l.name l.found l.number

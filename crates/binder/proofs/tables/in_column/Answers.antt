@@ -1,8 +1,0 @@
-use Rattle.std.proofs.Common.{sym}
-use Rattle.binder.specs.Faults.{column_faults}
-use Rattle.binder.proofs.FaultFacts.{first_of-append}
-use Rattle.binder.proofs.tables.in_column.Goals as goal
-
-pub returns : goal.returns
-unfolding column_faults
-returns c = rw (c.note_if.ensures, c.note_if-found.ensures, c.has_column-is_double.ensures) (sym (first_of-append c.args.found _ _))

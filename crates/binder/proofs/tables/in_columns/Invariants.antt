@@ -1,6 +1,0 @@
-use Rattle.binder.specs.Faults.{column_faults}
-use Rattle.binder.proofs.FaultFacts.{IsNotedBehind}
-use Rattle.binder.proofs.tables.in_columns.Given as goal
-
-abbrev pub invariant-loop-number : goal.invariant-loop-number
-invariant-loop-number l = IsNotedBehind column_faults l.columns l.fn.found l.found l.number

@@ -1,7 +1,0 @@
-use Rattle.std.specs.Prelude.{None}
-use Rattle.binder.specs.Faults.{source_faults}
-use Rattle.binder.proofs.FaultFacts.{IsNotedBehind}
-use Rattle.binder.proofs.tables.in_sources.Given as goal
-
-abbrev pub invariant-loop-number : goal.invariant-loop-number
-invariant-loop-number l = IsNotedBehind (source_faults l.tables) l.sources None l.found l.number

@@ -1,7 +1,0 @@
-use Rattle.std.specs.Prelude.{None}
-use Rattle.binder.specs.Faults.{table_faults}
-use Rattle.binder.proofs.FaultFacts.{IsNotedBehind}
-use Rattle.binder.proofs.tables.in_tables.Given as goal
-
-abbrev pub invariant-loop-number : goal.invariant-loop-number
-invariant-loop-number l = IsNotedBehind table_faults l.tables None l.found l.number

@@ -1,0 +1,37 @@
+-- The refusal of a script, phase by phase.
+use Rattle.std.proofs.Common.{◌≡◌, ◌∙◌, [], ◌∷◌, ap}
+use Rattle.std.specs.Prelude.{IfNone, Option, None, Some}
+use Rattle.std.specs.List.{flat_map}
+use Rattle.std.specs.Option.{option_or}
+use Rattle.sql_text.specs.declared.tree.Script.{Script}
+use Rattle.script_rules.specs.declared.found.Fault.{Fault}
+use Rattle.script_rules.specs.Scope.{scope_of}
+use Rattle.script_rules.specs.Conjuncts.{conjuncts_of}
+use Rattle.script_rules.specs.Faults.{conjunct_faults, each_behind, first_by_phase, first_of, item_faults, refusal_of, source_faults, table_faults}
+
+module _ (script : Script) where
+  -- the first refusals of the created tables and of the sources, and what comes behind them
+  abbrev pub of_tables : Option Fault
+  of_tables = first_of None (each_behind table_faults [] script.tables)
+
+  abbrev pub of_sources : Option Fault
+  of_sources = first_of None (each_behind (source_faults script.tables) [] script.select.sources)
+
+  abbrev pub of_query : Option Fault
+  of_query = first_by_phase (item_faults (scope_of script) script.select.items ∷ flat_map (conjunct_faults (scope_of script)) (conjuncts_of script) ∷ [])
+
+  pub refusal-tables : (f : Fault) → of_tables ≡ Some f → refusal_of script ≡ Some f
+  unfolding refusal_of
+  refusal-tables f e = ap (λ o. option_or o (option_or of_sources of_query)) e
+
+  pub refusal-sources : (f : Fault) → of_tables ≡ None → of_sources ≡ Some f → refusal_of script ≡ Some f
+  unfolding refusal_of
+  refusal-sources f none e = ap (λ o. option_or o (option_or of_sources of_query)) none ∙ ap (λ o. option_or o of_query) e
+
+  pub refusal-query : of_tables ≡ None → of_sources ≡ None → refusal_of script ≡ of_query
+  unfolding refusal_of
+  refusal-query none nor = ap (λ o. option_or o (option_or of_sources of_query)) none ∙ ap (λ o. option_or o of_query) nor
+
+pub if_none : {X : Type 0} {P : Type 0} (o : Option X) → P → IfNone o P
+if_none None p = p
+if_none (Some x) p = tt

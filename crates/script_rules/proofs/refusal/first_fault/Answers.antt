@@ -1,0 +1,51 @@
+use Rattle.std.proofs.Common.{◌∙◌, [], ap, sym}
+use Rattle.std.specs.Prelude.{None}
+use Rattle.script_rules.specs.Faults.{each_behind, first_of, source_faults, table_faults}
+use Rattle.script_rules.proofs.LimitFacts.{within_limits}
+use Rattle.script_rules.proofs.RefusalFacts.{if_none, refusal-query, refusal-sources, refusal-tables}
+use Rattle.script_rules.proofs.refusal.first_fault.Goals as goal
+
+pub returns-in-Some-clause-fault : goal.returns-in-Some-clause-fault
+returns-in-Some-clause-fault c =
+    let tables = ap (λ tables. first_of None (each_behind table_faults [] tables)) (sym c.as_slice.ensures) ∙ sym c.in_tables.ensures in
+    sym (refusal-tables c.args.script.now c.in-Some.fault (tables ∙ c.in-Some.is))
+
+pub returns-in-Some-in_sources-clause-fault : goal.returns-in-Some-in_sources-clause-fault
+returns-in-Some-in_sources-clause-fault c =
+    let tables = ap (λ tables. first_of None (each_behind table_faults [] tables)) (sym c.as_slice.ensures) ∙ sym c.in_tables.ensures in
+    let sources =
+    ap (λ sources. first_of None (each_behind (source_faults c.args.script.now.tables) [] sources)) (sym c.as_slice-3.ensures)
+    ∙ ap (λ tables. first_of None (each_behind (source_faults tables) [] c.as_slice-3.result.now)) (sym c.as_slice-2.ensures)
+    ∙ sym c.in_sources.ensures
+    in
+    sym (refusal-sources c.args.script.now c.in-Some-in_sources.fault (tables ∙ c.in_default.is) (sources ∙ c.in-Some-in_sources.is))
+
+pub in_query-requires : goal.in_query-requires
+in_query-requires c =
+    let tables = ap (λ tables. first_of None (each_behind table_faults [] tables)) (sym c.as_slice.ensures) ∙ sym c.in_tables.ensures in
+    let sources =
+    ap (λ sources. first_of None (each_behind (source_faults c.args.script.now.tables) [] sources)) (sym c.as_slice-3.ensures)
+    ∙ ap (λ tables. first_of None (each_behind (source_faults tables) [] c.as_slice-3.result.now)) (sym c.as_slice-2.ensures)
+    ∙ sym c.in_sources.ensures
+    in
+    record { limits = within_limits c.args.script.now (tables ∙ c.in_default.is) (sources ∙ c.in_default-in_sources.is) }
+
+pub returns-clause-fault : goal.returns-clause-fault
+returns-clause-fault c =
+    let tables = ap (λ tables. first_of None (each_behind table_faults [] tables)) (sym c.as_slice.ensures) ∙ sym c.in_tables.ensures in
+    let sources =
+    ap (λ sources. first_of None (each_behind (source_faults c.args.script.now.tables) [] sources)) (sym c.as_slice-3.ensures)
+    ∙ ap (λ tables. first_of None (each_behind (source_faults tables) [] c.as_slice-3.result.now)) (sym c.as_slice-2.ensures)
+    ∙ sym c.in_sources.ensures
+    in
+    c.in_query.ensures ∙ sym (refusal-query c.args.script.now (tables ∙ c.in_default.is) (sources ∙ c.in_default-in_sources.is))
+
+pub returns-clause-limits : goal.returns-clause-limits
+returns-clause-limits c =
+    let tables = ap (λ tables. first_of None (each_behind table_faults [] tables)) (sym c.as_slice.ensures) ∙ sym c.in_tables.ensures in
+    let sources =
+    ap (λ sources. first_of None (each_behind (source_faults c.args.script.now.tables) [] sources)) (sym c.as_slice-3.ensures)
+    ∙ ap (λ tables. first_of None (each_behind (source_faults tables) [] c.as_slice-3.result.now)) (sym c.as_slice-2.ensures)
+    ∙ sym c.in_sources.ensures
+    in
+    if_none c.in_query.result (within_limits c.args.script.now (tables ∙ c.in_default.is) (sources ∙ c.in_default-in_sources.is))

@@ -1,0 +1,211 @@
+-- All refusals that hold of a script, and the first of them.
+use Rattle.std.specs.Prelude.{ℕ, ◌==◌, ◌&&◌, ◌||◌, not, nat_lt, Bool, true, false, List, [], ◌∷◌, ◌++◌, length, map, Option, None, Some, Result, Ok, Err, if◌then◌else◌}
+use Rattle.std.specs.List.{flat_map, list_all, list_any}
+use Rattle.std.specs.Option.{option_or}
+use Rattle.std.specs.Char.{is_ascii_alphabetic, is_ascii_digit}
+use Rattle.std.specs.Str.{bytes_eq}
+use Rattle.rpt_base.specs.declared.limits.TheConstants.{MAX_COLUMNS, MAX_RELATIONS}
+use Rattle.rpt_base.specs.Lists.{all_of}
+use Rattle.rpt_base.specs.declared.values.ColumnType.{ColumnType}
+use Rattle.rpt_base.specs.declared.values.ColumnType.TheVariants as type
+use Rattle.rpt_base.specs.declared.values.Value.{Value}
+use Rattle.column_table.specs.Table.{type_of_value}
+use Rattle.sql_text.specs.declared.tree.Script.{Script}
+use Rattle.sql_text.specs.declared.tree.CreateTable.{CreateTable}
+use Rattle.sql_text.specs.declared.tree.ColumnItem.{ColumnItem}
+use Rattle.sql_text.specs.declared.tree.ColumnName.{ColumnName}
+use Rattle.sql_text.specs.declared.tree.Item.{Item}
+use Rattle.sql_text.specs.declared.tree.Items.{Items}
+use Rattle.sql_text.specs.declared.tree.Items.TheVariants as items
+use Rattle.sql_text.specs.declared.tree.Source.{Source}
+use Rattle.sql_text.specs.declared.tree.Expr.{Expr}
+use Rattle.sql_text.specs.declared.tree.Expr.TheVariants as expr
+use Rattle.sql_text.specs.declared.tree.Cond.{Cond}
+use Rattle.sql_text.specs.declared.tree.Cond.TheOpen.{Cond-F, And, Or, Not, Compare, Between, InList, Like}
+use Rattle.sql_text.specs.declared.tree.Cond.TheFolds.{fold-Cond}
+use Rattle.column_classes.specs.declared.columns.ColumnRef.{ColumnRef}
+use Rattle.script_rules.specs.declared.found.Fault.{Fault}
+use Rattle.script_rules.specs.declared.kinds.BindKind.{BindKind}
+use Rattle.script_rules.specs.declared.kinds.BindKind.TheVariants.{BadTableName, DuplicateTable, TooManyColumns, DuplicateColumn, UnknownTable, DuplicateAlias, TooManyRelations, UnknownColumn, Ambiguous, TypeMismatch, NotEquiJoin}
+use Rattle.script_rules.specs.Scope.{Relation, meaning, name_of, name_place, scope_of, type_at}
+use Rattle.script_rules.specs.Conjuncts.{columns_in, conjuncts_of, is_equality, of_two_relations, place_of}
+
+-- the order of kinds at one place
+abbrev pub rank_of : BindKind → ℕ
+rank_of BadTableName = 0
+rank_of DuplicateTable = 1
+rank_of TooManyColumns = 2
+rank_of DuplicateColumn = 3
+rank_of UnknownTable = 4
+rank_of DuplicateAlias = 5
+rank_of TooManyRelations = 6
+rank_of UnknownColumn = 7
+rank_of Ambiguous = 8
+rank_of TypeMismatch = 9
+rank_of NotEquiJoin = 10
+
+-- by place, and at one place by kind
+abbrev pub comes_before : Fault → Fault → Bool
+comes_before f g = nat_lt f.at g.at || ((f.at == g.at) && nat_lt (rank_of f.kind) (rank_of g.kind))
+
+-- of two, the one that comes first
+abbrev pub earlier : Option Fault → Fault → Option Fault
+earlier None f = Some f
+earlier (Some g) f = if comes_before f g then Some f else Some g
+
+-- the first of all, and of what was found before
+unfoldable pub first_of : Option Fault → List Fault → Option Fault
+first_of found [] = found
+first_of found (f ∷ faults) = first_of (earlier found f) faults
+
+-- of two that may be missing, the one that comes first
+abbrev pub merged : Option Fault → Option Fault → Option Fault
+merged found None = found
+merged found (Some f) = earlier found f
+
+-- this refusal, where the test holds
+unfoldable pub fault_if : Bool → ℕ → BindKind → List Fault
+fault_if holds at kind = if holds then record { at = at; kind = kind } ∷ [] else []
+
+-- the refusals of each member behind those before it
+unfoldable pub each_behind : {X : Type 0} → (List X → X → List Fault) → List X → List X → List Fault
+each_behind faults before [] = []
+each_behind faults before (x ∷ xs) = faults before x ++ each_behind faults (before ++ x ∷ []) xs
+
+-- only ASCII letters, digits, `_` and `-`
+abbrev pub is_file_name : List ℕ → Bool
+is_file_name name = list_all (λ b. is_ascii_alphabetic b || (is_ascii_digit b || ((b == 95) || (b == 45)))) name
+
+-- a table of this name is created
+abbrev pub has_table : List CreateTable → List ℕ → Bool
+has_table tables name = list_any (λ (t : CreateTable). bytes_eq t.name name) tables
+
+-- a column has this name
+abbrev pub has_column : List ColumnItem → List ℕ → Bool
+has_column columns name = list_any (λ (c : ColumnItem). bytes_eq c.name name) columns
+
+-- a source goes by this name
+abbrev pub has_relation : List Source → List ℕ → Bool
+has_relation sources name = list_any (λ (s : Source). bytes_eq (name_of s) name) sources
+
+-- the refusals of a column behind those before it
+unfoldable pub column_faults : List ColumnItem → ColumnItem → List Fault
+column_faults before c = fault_if (length before == MAX_COLUMNS) c.at TooManyColumns ++ fault_if (has_column before c.name) c.at DuplicateColumn
+
+-- the refusals of a created table behind those before it
+unfoldable pub table_faults : List CreateTable → CreateTable → List Fault
+table_faults before t =
+    fault_if (not (is_file_name t.name)) t.at BadTableName ++ (fault_if (has_table before t.name) t.at DuplicateTable ++ each_behind column_faults [] t.columns)
+
+-- the refusals of a source behind those before it
+unfoldable pub source_faults : List CreateTable → List Source → Source → List Fault
+source_faults tables before s =
+    fault_if (not (has_table tables s.table)) s.at UnknownTable ++ (fault_if (has_relation before (name_of s)) (name_place s) DuplicateAlias
+    ++ fault_if (length before == MAX_RELATIONS) s.at TooManyRelations)
+
+-- the refusal of a reference at this place that means this
+abbrev pub meaning_faults : ℕ → Result ColumnRef BindKind → List Fault
+meaning_faults at (Ok column) = []
+meaning_faults at (Err kind) = record { at = at; kind = kind } ∷ []
+
+-- the refusal of a reference to a column
+unfoldable pub reference_faults : List Relation → ColumnName → List Fault
+reference_faults scope c = meaning_faults c.at (meaning scope c)
+
+-- the refusals of what is selected
+unfoldable pub item_faults : List Relation → Items → List Fault
+item_faults scope items.Star = []
+item_faults scope (items.List list) = flat_map (λ (i : Item). reference_faults scope i.column) list
+
+-- the refusal of an operand
+unfoldable pub operand_faults : List Relation → Expr → List Fault
+operand_faults scope (expr.Column c) = reference_faults scope c
+operand_faults scope (expr.Literal at v) = []
+
+-- the type of the column that is meant; none where none is
+abbrev pub type_meant : List Relation → Result ColumnRef BindKind → Option ColumnType
+type_meant scope (Ok column) = type_at scope column
+type_meant scope (Err kind) = None
+
+-- the type of an operand; none where it is a column that doesn't resolve
+unfoldable pub type_of : List Relation → Expr → Option ColumnType
+type_of scope (expr.Literal at v) = Some (type_of_value v)
+type_of scope (expr.Column c) = type_meant scope (meaning scope c)
+
+-- one type
+abbrev pub is_same_type : ColumnType → ColumnType → Bool
+is_same_type type.Int type.Int = true
+is_same_type type.Text type.Text = true
+is_same_type _ _ = false
+
+-- the types are known, and are not one type
+abbrev pub differ : Option (List ColumnType) → Bool
+differ None = false
+differ (Some []) = false
+differ (Some (t ∷ types)) = not (list_all (is_same_type t) types)
+
+-- the refusal of operands of more than one type
+unfoldable pub type_faults : ℕ → List (Option ColumnType) → List Fault
+type_faults at types = fault_if (differ (all_of types)) at TypeMismatch
+
+-- the refusals of operands in order
+abbrev pub operands_faults : List Relation → List Expr → List Fault
+operands_faults scope operands = flat_map (operand_faults scope) operands
+
+-- the refusals of a comparison
+unfoldable pub compare_faults : List Relation → ℕ → Expr → Expr → List Fault
+compare_faults scope at left right = operands_faults scope (left ∷ right ∷ []) ++ type_faults at (type_of scope left ∷ type_of scope right ∷ [])
+
+-- the refusals of a BETWEEN
+unfoldable pub between_faults : List Relation → ℕ → Expr → Expr → Expr → List Fault
+between_faults scope at operand low high =
+    operands_faults scope (operand ∷ low ∷ high ∷ []) ++ type_faults at (type_of scope operand ∷ type_of scope low ∷ type_of scope high ∷ [])
+
+-- the refusals of an IN
+unfoldable pub list_faults : List Relation → ℕ → Expr → List Value → List Fault
+list_faults scope at operand values = operand_faults scope operand ++ type_faults at (type_of scope operand ∷ map (λ v. Some (type_of_value v)) values)
+
+-- the refusals of a LIKE
+unfoldable pub like_faults : List Relation → ℕ → Expr → List Fault
+like_faults scope at operand = operand_faults scope operand ++ type_faults at (type_of scope operand ∷ Some type.Text ∷ [])
+
+-- the refusals inside of a condition, given those inside of its members
+abbrev pub cond_faults_over : List Relation → Cond-F (List Fault) → List Fault
+cond_faults_over scope (And members) = flat_map (λ faults. faults) members
+cond_faults_over scope (Or members) = flat_map (λ faults. faults) members
+cond_faults_over scope (Not at inner) = inner
+cond_faults_over scope (Compare at op left right) = compare_faults scope at left right
+cond_faults_over scope (Between at negated operand low high) = between_faults scope at operand low high
+cond_faults_over scope (InList at negated operand values) = list_faults scope at operand values
+cond_faults_over scope (Like at negated operand pattern) = like_faults scope at operand
+
+-- the refusals inside of a condition
+unfoldable pub cond_faults : List Relation → Cond → List Fault
+cond_faults scope = fold-Cond (List Fault) (cond_faults_over scope)
+
+-- the refusal of a conjunct that is otherwise in order: it names two or more relations, and is no written equality
+unfoldable pub join_faults : List Relation → Cond → List Fault → List Fault
+join_faults scope c [] = fault_if (of_two_relations (columns_in scope c) && not (is_equality c)) (place_of c) NotEquiJoin
+join_faults scope c (f ∷ faults) = []
+
+-- the refusals of a conjunct
+unfoldable pub conjunct_faults : List Relation → Cond → List Fault
+conjunct_faults scope c = cond_faults scope c ++ join_faults scope c (cond_faults scope c)
+
+-- all refusals that hold of a script, by phase: those of the created tables, the sources, the list of items and the conjuncts
+abbrev pub phases_of : Script → List (List Fault)
+phases_of script =
+    each_behind table_faults [] script.tables
+    ∷ each_behind (source_faults script.tables) [] script.select.sources
+    ∷ item_faults (scope_of script) script.select.items
+    ∷ flat_map (conjunct_faults (scope_of script)) (conjuncts_of script)
+    ∷ []
+
+-- the first refusal of the first phase that has one
+abbrev pub first_by_phase : List (List Fault) → Option Fault
+first_by_phase [] = None
+first_by_phase (faults ∷ phases) = option_or (first_of None faults) (first_by_phase phases)
+
+-- the refusal of a script, if it is refused
+unfoldable pub refusal_of : Script → Option Fault
+refusal_of script = first_by_phase (phases_of script)

@@ -1,0 +1,26 @@
+//! What the names of a script mean, and the rules that refuse it.
+//!
+//! A reference to a column means the one column that it may mean. The layers above rely on this: a script is refused exactly where
+//! a rule refuses it, and the refusal that is told is the first of them.
+#![tactic(auto)]
+
+mod conditions;
+mod conjuncts;
+mod found;
+mod kinds;
+mod named;
+mod operands;
+mod refusal;
+mod scope;
+mod tables;
+
+pub use conjuncts::is_equality;
+pub use found::Fault;
+pub use kinds::BindKind;
+pub use named::first_relation;
+pub use operands::column_of;
+pub use refusal::first_fault;
+pub use scope::{columns_of, is_same, meaning, name_of};
+
+#[cfg(test)]
+mod tests;
