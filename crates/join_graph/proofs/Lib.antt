@@ -1,0 +1,10 @@
+pub mod JoinChecks
+pub mod ListFacts
+pub mod MemberFacts
+pub mod NeededFacts
+pub mod NeededSteps
+pub mod StoredFacts
+pub mod SumFacts
+pub mod TreeFacts
+pub mod WeightFacts
+pub mod WorkedRows

@@ -1,0 +1,3 @@
+pub mod JoinList
+pub mod SafeSet
+pub mod Weights

@@ -1,0 +1,12 @@
+pub mod BestFacts
+pub mod ChainFacts
+pub mod ExchangeFacts
+pub mod GreatestFacts
+pub mod GreedyChecks
+pub mod GrowthFacts
+pub mod HeaviestFacts
+pub mod JoinFacts
+pub mod ListedFacts
+pub mod OneList
+pub mod TreeFacts
+pub mod WorkedRows

@@ -1,0 +1,5 @@
+pub mod OneList
+pub mod OrderFacts
+pub mod PrefixFacts
+pub mod SetFacts
+pub mod WorkedRows
