@@ -1,0 +1,82 @@
+// The lines of a query's relations and variables, and of its order.
+ghost use Rattle.std.specs.Prelude.{◌≡◌, ◌<◌, ◌++◌, All, OnOk, length};
+ghost use Rattle.binder.specs.Query.{Names, widths_of};
+ghost use Rattle.column_classes.specs.Variables.{AreQueryVariables};
+ghost use Rattle.plan_report.specs.Report.{count_line, next_text, order_line, relation_line, relation_lines, variable_line, variable_lines};
+
+use crate::pieces::{put, put_alias, put_column, put_number, table_at};
+use binder::{Bound, ColumnRef};
+use rpt_base::Memory;
+
+/// How many relations there are.
+pub(crate) fn put_count(out: &mut Vec<u8>, bound: &Bound) -> Result<(), Memory>
+    ensures { OnOk result (out.new.items ≡ out.old.items ++ count_line bound.now.query) }
+{
+    put(out, b"relations ")?;
+    put_number(out, bound.relations())?;
+    put(out, b"\n")
+}
+
+/// A line for each relation.
+pub(crate) fn put_relations(out: &mut Vec<u8>, bound: &Bound) -> Result<(), Memory>
+    ensures { OnOk result (out.new.items ≡ out.old.items ++ relation_lines bound.now.query) }
+{
+    for relation in 0..bound.relations() {
+        put_relation(out, bound, relation)?;
+    }
+    Ok(())
+}
+
+fn put_relation(out: &mut Vec<u8>, bound: &Bound, relation: u32) -> Result<(), Memory>
+    requires { relation < length bound.now.query.table_of }
+    ensures { OnOk result (out.new.items ≡ out.old.items ++ relation_line bound.now.query relation) }
+{
+    put(out, b"relation ")?;
+    put_alias(out, bound, relation)?;
+    put(out, b" ")?;
+    put(out, table_at(bound, relation).name.bytes())?;
+    put(out, b"\n")
+}
+
+/// A line for each variable.
+pub(crate) fn put_variables(out: &mut Vec<u8>, bound: &Bound) -> Result<(), Memory>
+    requires { AreQueryVariables (widths_of bound.now.query) bound.now.query.equalities bound.now.known }
+    ensures { OnOk result (out.new.items ≡ out.old.items ++ variable_lines bound.now.query bound.now.known.variables) }
+{
+    for variable in 0..bound.variables() {
+        put_variable(out, bound, bound.columns_of(variable))?;
+    }
+    Ok(())
+}
+
+fn put_variable(out: &mut Vec<u8>, bound: &Bound, columns: &[ColumnRef]) -> Result<(), Memory>
+    requires { All (Names bound.now.query) columns.now }
+    ensures { OnOk result (out.new.items ≡ out.old.items ++ variable_line bound.now.query columns.now) }
+{
+    put(out, b"variable")?;
+    for column in columns {
+        put_column(out, bound, *column)?;
+    }
+    put(out, b"\n")
+}
+
+/// The relations in order.
+pub(crate) fn put_order(out: &mut Vec<u8>, bound: &Bound, order: &[u32]) -> Result<(), Memory>
+    requires { All (λ r. r < length bound.now.query.table_of) order.now }
+    ensures { OnOk result (out.new.items ≡ out.old.items ++ order_line bound.now.query order.now) }
+{
+    put(out, b"order")?;
+    for relation in order {
+        put_next(out, bound, *relation)?;
+    }
+    put(out, b"\n")
+}
+
+// A relation's name, behind a space.
+fn put_next(out: &mut Vec<u8>, bound: &Bound, relation: u32) -> Result<(), Memory>
+    requires { relation < length bound.now.query.table_of }
+    ensures { OnOk result (out.new.items ≡ out.old.items ++ next_text bound.now.query relation) }
+{
+    put(out, b" ")?;
+    put_alias(out, bound, relation)
+}

@@ -1,0 +1,3 @@
+pub mod AcceptedFacts
+pub mod SequenceFacts
+pub mod PlanFacts

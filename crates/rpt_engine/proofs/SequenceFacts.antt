@@ -1,0 +1,78 @@
+-- The sequence of a list with parents is an order, and its prefixes have one list of join lists.
+use Rattle.std.proofs.Common.{◌≡◌, ℕ, ◌+◌, ◌<◌, ◌≤◌, Bool, true, false, ◌||◌, List, [], ◌∷◌, length, get_or, map, refl, sym, ap, ◌∙◌, eqb, arith}
+use Rattle.std.specs.Prelude.{Option, None, Some}
+use Rattle.std.specs.List.{AllByRecursion, IsDistinct, list_any}
+use Rattle.std.proofs.lemmas.Bool.{lt-ltb, or_parts}
+use Rattle.std.proofs.lemmas.List.{ext_get_or, length-map}
+use Rattle.std.proofs.lemmas.Map.Steps.{length-le_from_distinct_below, le-length_from_below}
+use Rattle.join_graph.specs.declared.tree.Link.{Link}
+use Rattle.join_graph.specs.declared.tree.Tree.{Tree}
+use Rattle.join_graph.specs.JoinList.{has, everyone, listed_by, Extends, HasParents}
+use Rattle.join_graph.specs.SafeSet.{IsSafe}
+use Rattle.join_graph.proofs.ListFacts.{everyone-below, extends-below, only-root, same_truth}
+use Rattle.largest_root.proofs.ListedFacts.{has-listed_by}
+use Rattle.safe_subjoin.specs.SafeOrder.{AreListsOfPrefixes, IsListOf, IsOrder, IsSafeList, first_of, sequence}
+use Rattle.safe_subjoin.proofs.OneList.{one-safe_list}
+
+length-listed : (listed : List ℕ) (links : List Link) → length (listed_by listed links) ≡ length listed + length links
+length-listed listed [] = omega arith
+length-listed listed (l ∷ links) = omega (arith, length-listed (l.child ∷ listed) links)
+
+new-apart : (r : ℕ) (xs : List ℕ) → has r xs ≡ false → AllByRecursion (λ y. eqb r y ≡ false) xs
+new-apart r [] h = tt
+new-apart r (x ∷ xs) h = ((or_parts (eqb r x) (has r xs) h).0, new-apart r xs (or_parts (eqb r x) (has r xs) h).1)
+
+listed-distinct : (n : ℕ) (listed : List ℕ) (links : List Link) → IsDistinct eqb listed → Extends n listed links → IsDistinct eqb (listed_by listed links)
+unfolding IsDistinct
+listed-distinct n listed [] apart h = apart
+listed-distinct n listed (l ∷ links) apart h = listed-distinct n (l.child ∷ listed) links (new-apart l.child listed h.1, apart) h.3
+
+has-children : (r : ℕ) (links : List Link) → list_any (λ l. eqb r l.child) links ≡ has r (map (λ (l : Link). l.child) links)
+has-children r [] = refl
+has-children r (l ∷ links) = ap (λ b. eqb r l.child || b) (has-children r links)
+
+has-sequence : (r root : ℕ) (links : List Link) → has r (listed_by (root ∷ []) links) ≡ has r (sequence root links)
+has-sequence r root links =
+    has-listed_by r (root ∷ []) links ∙ flat (eqb r root) (list_any (λ l. eqb r l.child) links) ∙ ap (λ b. eqb r root || b) (has-children r links)
+  where
+    flat : (a b : Bool) → ((a || false) || b) ≡ (a || b)
+    flat true b = refl
+    flat false b = refl
+
+root-distinct : (root : ℕ) → IsDistinct eqb (root ∷ [])
+unfolding IsDistinct
+root-distinct root = (tt, tt)
+
+-- the sequence of a list with parents is an order: it has each of n relations once
+pub sequence-order : (n root : ℕ) (links : List Link) → HasParents n root links → IsOrder n (sequence root links)
+sequence-order n root links h = record { count = count; all = λ r. sym (has-sequence r root links) ∙ whole r }
+  where
+    listed : List ℕ
+    listed = listed_by (root ∷ []) links
+
+    below : (r : ℕ) → has r listed ≡ true → r < n
+    below = extends-below n (root ∷ []) links h.extends (only-root (λ z. z < n) root h.first)
+
+    whole : (r : ℕ) → has r listed ≡ everyone n r
+    whole r = same_truth (has r listed) (everyone n r) (λ k. lt-ltb r n (below r k)) (λ k. h.all r (everyone-below n r k))
+
+    count : length (sequence root links) ≡ n
+    count =
+        let few : length listed ≤ n = length-le_from_distinct_below listed n (listed-distinct n (root ∷ []) links (root-distinct root) h.extends) below in
+        let many : n ≤ length listed = le-length_from_below listed n h.all in
+        omega (arith, length-listed (root ∷ []) links, length-map links (λ (l : Link). l.child))
+
+-- a safe list shows that its set is safe
+list-safe : (vs : List (List ℕ)) (set : ℕ → Bool) (t : Tree) → IsSafeList vs set t → IsSafe vs set
+list-safe vs set t h = (t.root, t.links, h.joins, h.begins)
+
+list-same : (vs : List (List ℕ)) (set : ℕ → Bool) (x y : Option Tree) → IsListOf vs set x → IsListOf vs set y → x ≡ y
+list-same vs set None None h k = refl
+list-same vs set None (Some t) h k = absurd (h (list-safe vs set t k))
+list-same vs set (Some s) None h k = absurd (k (list-safe vs set s h))
+list-same vs set (Some s) (Some t) h k = ap (λ (z : Tree). Some z) (one-safe_list vs set s t h k)
+
+-- there is one list of join lists for the prefixes of an order
+pub lists-same : (vs : List (List ℕ)) (order : List ℕ) (a b : List (Option Tree)) → AreListsOfPrefixes vs order a → AreListsOfPrefixes vs order b → a ≡ b
+lists-same vs order a b h k = ext_get_or None a b (h.count ∙ sym k.count)
+    (λ i lt. list-same vs (first_of order (i + 1)) (get_or a i None) (get_or b i None) (h.each i None lt) (k.each i None (omega (arith, h.count, k.count))))

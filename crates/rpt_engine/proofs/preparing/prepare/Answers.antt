@@ -1,0 +1,8 @@
+use Rattle.std.proofs.Common.{◌∙◌, subst, List, ℕ}
+use Rattle.rpt_engine.specs.Prepared.{IsUnprepared}
+use Rattle.rpt_engine.proofs.preparing.prepare.Goals as goal
+
+pub returns-in-Err-clause-refused : goal.returns-in-Err-clause-refused
+returns-in-Err-clause-refused c =
+    subst (λ (vs : List (List ℕ)). IsUnprepared vs c.args.options.now.order c.args.options.now.force c.in-Err.error) (c.in_ok-graph.ensures ∙ c.var_sets.ensures.sets)
+    (c.in-Err.ensures.refused c.args.options.now.order c.args.options.now.force)

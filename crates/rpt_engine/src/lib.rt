@@ -1,0 +1,19 @@
+//! From a bound query to its plan: whether it can be answered along an order of its relations, and how.
+//!
+//! `prepare` makes the graph of the relations that share variables. The layers above rely on this: it is Ok exactly where the query has a
+//! join list and an order that is given is accepted or forced, and its refusals say what is missing. `plan_for` gives
+//! LargestRoot's tree, the order, and a join list for each prefix of the order that is safe.
+#![tactic(auto)]
+
+mod errors;
+mod options;
+mod planning;
+mod preparing;
+
+pub use errors::PrepareError;
+pub use options::Options;
+pub use planning::{Plan, plan_for};
+pub use preparing::{Prepared, prepare};
+
+#[cfg(test)]
+mod tests;

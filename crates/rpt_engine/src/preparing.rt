@@ -1,0 +1,80 @@
+// Whether a query can be answered along an order.
+ghost use Rattle.std.specs.Prelude.{◌≡◌, ℕ, Bool, IfErr, IfOk, IfSome, List, MatchResult, Option, length};
+ghost use Rattle.join_graph.specs.JoinList.{IsAcyclic};
+ghost use Rattle.safe_subjoin.specs.SafeOrder.{IsOrder};
+ghost use Rattle.rpt_engine.specs.Prepared.{IsAllowed, IsUnprepared};
+
+use crate::errors::PrepareError;
+use crate::options::Options;
+use binder::Bound;
+use join_graph::Graph;
+use largest_root::{TreeError, join_tree};
+use rpt_base::Listed;
+use rpt_base::limits::MAX_RELATIONS;
+use safe_subjoin::{OrderError, safe_order};
+use std::alloc::Global;
+
+/// A query that can be answered along a join list.
+#[derive(Drop)]
+pub struct Prepared {
+    /// The query's relations, and the variables that they share.
+    pub graph: Graph,
+}
+
+/// Prepares a query. It is Ok exactly where the query has a join list, and an order that is given is accepted or forced: each of its
+/// prefixes is then a safe set. An order that is given has each relation once.
+pub fn prepare(alloc: Global, bound: &Bound, options: &Options) -> Result<Prepared, PrepareError>
+    requires order { IfSome options.now.order (λ order. IsOrder (length bound.now.known.sets) order) }
+    ensures graph { IfOk result (λ p. p.graph ≡ bound.now.known.sets) }
+    ensures acyclic { IfOk result (λ p. IsAcyclic bound.now.known.sets) }
+    ensures allowed { IfOk result (λ p. IsAllowed bound.now.known.sets options.now.order options.now.force) }
+    ensures refused { IfErr result (λ e. IsUnprepared bound.now.known.sets options.now.order options.now.force e) }
+{
+    let graph = Graph::of(alloc, bound.var_sets())?;
+    if let Err(error) = find_tree(alloc, &graph) {
+        return Err(error);
+    }
+    if let Err(error) = check_order(alloc, &graph, &options.order, options.force) {
+        return Err(error);
+    }
+    Ok(Prepared { graph })
+}
+
+// Finds whether there is a join list. The sizes play no part in that.
+fn find_tree(alloc: Global, graph: &Graph) -> Result<(), PrepareError>
+    ensures acyclic { IfOk result (λ _. IsAcyclic graph.now) }
+    ensures refused { IfErr result (λ e. (order : Option (List ℕ)) (force : Bool) → IsUnprepared graph.now order force e) }
+{
+    let sizes = [0; MAX_RELATIONS as usize];
+    match join_tree(alloc, graph, &sizes[..graph.relations() as usize]) {
+        Ok(_) => Ok(()),
+        Err(TreeError::Cyclic { best, needed }) => Err(PrepareError::Cyclic { best, needed }),
+        Err(TreeError::Memory) => Err(PrepareError::Memory),
+    }
+}
+
+// Finds whether an order that is given is accepted, where it has to be.
+fn check_order(
+    alloc: Global,
+    graph: &Graph,
+    order: &Option<Listed<u32>>,
+    force: bool,
+) -> Result<(), PrepareError>
+    requires acyclic { IsAcyclic graph.now }
+    requires order { IfSome order.now (λ order. IsOrder (length graph.now) order) }
+    ensures allowed { IfOk result (λ _. IsAllowed graph.now order.now force) }
+    ensures refused { IfErr result (λ e. IsUnprepared graph.now order.now force e) }
+{
+    let Some(order) = order else {
+        return Ok(());
+    };
+    if force {
+        return Ok(());
+    }
+    let _lists = match safe_order(alloc, graph, order.as_slice()) {
+        Ok(lists) => lists,
+        Err(OrderError::Unsafe { prefix }) => return Err(PrepareError::UnsafeOrder { prefix }),
+        Err(OrderError::Memory) => return Err(PrepareError::Memory),
+    };
+    Ok(())
+}
