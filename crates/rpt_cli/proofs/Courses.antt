@@ -2,10 +2,10 @@
 use Rattle.std.proofs.Common.{◌≡◌, ◌⊎◌, inl, inr, refl, ℕ, ◌≤◌, List, length, nat_lt, false, ap, subst, arith}
 use Rattle.std.specs.Prelude.{Bool, Option, Result, Ok, Err, MatchResult, if◌then◌else◌}
 use Rattle.rpt_outside.specs.Causes.{NeverFalls, Rose, Tells}
-use Rattle.sql_text.specs.declared.tree.Script.{Script}
 use Rattle.rpt_cli.specs.declared.refusal.Refusal.{Refusal}
 use Rattle.rpt_cli.specs.declared.refusal.Refusal.TheVariants.{TooLarge, Memory}
-use Rattle.rpt_cli.specs.Course.{Answer, Asks, Course, Ends, Gives, IsReadAs, Leads, Reads}
+use Rattle.rpt_cli.specs.Course.{Answer, Asks, Course, Ends, Finds, Gives, IsFoundAs, Leads}
+use Rattle.rpt_cli.specs.Matters.{Found, Matter}
 use Rattle.rpt_cli.specs.Command.{asks_within}
 
 -- a course leads to the same answer since earlier
@@ -16,12 +16,12 @@ Leads-earlier told before later now falls (Asks name next) answer (inl p) =
     inl (p.0, (let rose : Rose (later name) (now name) = p.1 in let h : before name ≤ later name = falls name in omega arith))
 Leads-earlier told before later now falls (Asks name next) answer (inr p) =
     inr (p.0, p.1, Leads-earlier told before later now falls (next p.0) answer p.2)
-Leads-earlier told before later now falls (Reads bytes next) answer p =
-    (p.0, p.1, by p.0 (λ script. Leads-earlier told before later now falls (next script) answer) p.2)
+Leads-earlier told before later now falls (Finds matter next) answer p =
+    (p.0, p.1, by p.0 (λ x. Leads-earlier told before later now falls (next x) answer) p.2)
   where
-    by : (r : Result Script Refusal) → ((script : Script) → Leads told later now (next script) answer → Leads told before now (next script) answer)
-        → MatchResult r (λ script. Leads told later now (next script) answer) (λ e. answer ≡ Err e) → MatchResult r (λ script. Leads told before now (next script) answer) (λ e. answer ≡ Err e)
-    by (Ok script) more l = more script l
+    by : (r : Result (Found matter) Refusal) → ((x : Found matter) → Leads told later now (next x) answer → Leads told before now (next x) answer)
+        → MatchResult r (λ x. Leads told later now (next x) answer) (λ e. answer ≡ Err e) → MatchResult r (λ x. Leads told before now (next x) answer) (λ e. answer ≡ Err e)
+    by (Ok x) more l = more x l
     by (Err e) more l = l
 
 -- contents within the limit are passed on
@@ -41,14 +41,14 @@ asks_within-Gives told held before later now limit name next bytes answer same f
     let begun : Leads told before now (next bytes) answer = Leads-earlier told before later now falls (next bytes) answer here in
     inr (inr (bytes, tells, subst (λ (course : Course). Leads told before now course answer) (within-limit limit name next bytes room) begun))
 
--- a script that was read is passed
-pub reads-Gives : (told : List ℕ → Option (List ℕ)) (before now : List ℕ → ℕ) (bytes : List ℕ) (next : Script → Course) (script : Script) (answer : Answer)
-    → IsReadAs bytes (Ok script) → Gives told before now (next script) answer → Gives told before now (Reads bytes next) answer
-reads-Gives told before now bytes next script answer only (inl memory) = inl memory
-reads-Gives told before now bytes next script answer only (inr leads) = inr (Ok script, only, leads)
+-- what was found is passed
+pub finds-Gives : (told : List ℕ → Option (List ℕ)) (before now : List ℕ → ℕ) (matter : Matter) (next : Found matter → Course) (x : Found matter) (answer : Answer)
+    → IsFoundAs matter (Ok x) → Gives told before now (next x) answer → Gives told before now (Finds matter next) answer
+finds-Gives told before now matter next x answer only (inl memory) = inl memory
+finds-Gives told before now matter next x answer only (inr leads) = inr (Ok x, only, leads)
 
--- and bytes that are refused end the course
-pub refuses-Gives : (told : List ℕ → Option (List ℕ)) (before now : List ℕ → ℕ) (bytes : List ℕ) (next : Script → Course) (e : Refusal)
-    → (e ≡ Memory) ⊎ IsReadAs bytes (Err e) → Gives told before now (Reads bytes next) (Err e)
-refuses-Gives told before now bytes next e (inl memory) = inl (ap Err memory)
-refuses-Gives told before now bytes next e (inr only) = inr (Err e, only, refl)
+-- and a refusal ends the course
+pub refuses-Gives : (told : List ℕ → Option (List ℕ)) (before now : List ℕ → ℕ) (matter : Matter) (next : Found matter → Course) (e : Refusal)
+    → (e ≡ Memory) ⊎ IsFoundAs matter (Err e) → Gives told before now (Finds matter next) (Err e)
+refuses-Gives told before now matter next e (inl memory) = inl (ap Err memory)
+refuses-Gives told before now matter next e (inr only) = inr (Err e, only, refl)

@@ -2,6 +2,10 @@ pub mod Causes
 pub mod Courses
 pub mod LineFacts
 pub mod Outcomes
+pub mod OrderFacts
 pub mod ScriptFacts
+pub mod SettingFacts
+pub mod PreparedFacts
+pub mod PlannedFacts
 pub mod Sinks
 pub mod TableFacts

@@ -3,10 +3,10 @@ use Rattle.std.proofs.Common.{◌≡◌, ◌⊎◌, inl, inr, ℕ, ◌+◌, ◌-
 use Rattle.std.specs.Prelude.{Option, Result, Ok, Err, IfSome, IsOk, IsOkAnd, MatchResult, is_ok, true, false, ⊤}
 use Rattle.std.specs.Io.KnownBytes.{Appends}
 use Rattle.rpt_outside.specs.Causes.{Rose, Tells}
-use Rattle.sql_text.specs.declared.tree.Script.{Script}
 use Rattle.rpt_cli.specs.declared.refusal.Refusal.{Refusal}
-use Rattle.rpt_cli.specs.declared.refusal.Refusal.TheVariants.{Usage, ReadFault, TooLarge, Lex, Syntax, TooDeep, Bind, Header, Ragged, BadField, NotUtf8, TooManyRows, WriteFault, Memory}
-use Rattle.rpt_cli.specs.Course.{Answer, Course, Ends, Asks, Reads, Leads, Gives, IsOutcome, NoneRose}
+use Rattle.rpt_cli.specs.declared.refusal.Refusal.TheVariants.{Usage, ReadFault, TooLarge, Lex, Syntax, TooDeep, Bind, Cyclic, OrderNames, UnsafeOrder, Header, Ragged, BadField, NotUtf8, TooManyRows, WriteFault, Memory}
+use Rattle.rpt_cli.specs.Course.{Answer, Course, Ends, Asks, Finds, Leads, Gives, IsOutcome, NoneRose}
+use Rattle.rpt_cli.specs.Matters.{Found}
 use Rattle.rpt_cli.specs.Message.{status_of}
 use Rattle.rpt_cli.specs.Delivery.{Delivers}
 use Rattle.rpt_cli.specs.Outcome.{Answers}
@@ -24,14 +24,14 @@ outcome-text told before now (Asks name next) text end (inl p) o = absurd (let e
 outcome-text told before now (Asks name next) text end (inr p) o =
     outcome-text told before now (next p.0) text end p.2
     (subst (λ (bytes : List ℕ). IsOutcome told (next bytes) end) (told-read (told name) p.0 o.0 p.1 o.1) o.2)
-outcome-text told before now (Reads bytes next) text end p o =
-    by p.0 (λ script. outcome-text told before now (next script) text end) p.2
-    (subst (λ (r : Result Script Refusal). MatchResult r (λ script. IsOutcome told (next script) end) (λ e. end ≡ Err e)) (p.1.1 o.0 o.1) o.2)
+outcome-text told before now (Finds matter next) text end p o =
+    by p.0 (λ x. outcome-text told before now (next x) text end) p.2
+    (subst (λ (r : Result (Found matter) Refusal). MatchResult r (λ x. IsOutcome told (next x) end) (λ e. end ≡ Err e)) (p.1.1 o.0 o.1) o.2)
   where
-    by : (r : Result Script Refusal) → ((script : Script) → Leads told before now (next script) (Ok text) → IsOutcome told (next script) end → end ≡ Ok text)
-        → MatchResult r (λ script. Leads told before now (next script) (Ok text)) (λ e. Ok text ≡ Err e)
-        → MatchResult r (λ script. IsOutcome told (next script) end) (λ e. end ≡ Err e) → end ≡ Ok text
-    by (Ok script) more l m = more script l m
+    by : (r : Result (Found matter) Refusal) → ((x : Found matter) → Leads told before now (next x) (Ok text) → IsOutcome told (next x) end → end ≡ Ok text)
+        → MatchResult r (λ x. Leads told before now (next x) (Ok text)) (λ e. Ok text ≡ Err e)
+        → MatchResult r (λ x. IsOutcome told (next x) end) (λ e. end ≡ Err e) → end ≡ Ok text
+    by (Ok x) more l m = more x l m
     by (Err e) more l m = absurd (let no : Ok text ≡ Err e = l in cc)
 
 -- where no count rose, a course leads to its outcome
@@ -45,16 +45,16 @@ outcome-quiet told before now (Asks name next) answer end (inr p) q o =
     let quiet : IfSome (Some o.0) (λ bytes. NoneRose told before now (next bytes)) = subst (λ (c : Option (List ℕ)). IfSome c (λ bytes. NoneRose told before now (next bytes))) o.1 q.1 in
     outcome-quiet told before now (next p.0) answer end p.2 (subst (λ (bytes : List ℕ). NoneRose told before now (next bytes)) same quiet)
     (subst (λ (bytes : List ℕ). IsOutcome told (next bytes) end) same o.2)
-outcome-quiet told before now (Reads bytes next) answer end p q o =
-    by p.0 (λ script. outcome-quiet told before now (next script) answer end) p.2
-    (subst (λ (r : Result Script Refusal). MatchResult r (λ script. NoneRose told before now (next script)) (λ e. ⊤)) (p.1.1 q.0 q.1) q.2)
-    (subst (λ (r : Result Script Refusal). MatchResult r (λ script. IsOutcome told (next script) end) (λ e. end ≡ Err e)) (p.1.1 o.0 o.1) o.2)
+outcome-quiet told before now (Finds matter next) answer end p q o =
+    by p.0 (λ x. outcome-quiet told before now (next x) answer end) p.2
+    (subst (λ (r : Result (Found matter) Refusal). MatchResult r (λ x. NoneRose told before now (next x)) (λ e. ⊤)) (p.1.1 q.0 q.1) q.2)
+    (subst (λ (r : Result (Found matter) Refusal). MatchResult r (λ x. IsOutcome told (next x) end) (λ e. end ≡ Err e)) (p.1.1 o.0 o.1) o.2)
   where
-    by : (r : Result Script Refusal) → ((script : Script) → Leads told before now (next script) answer → NoneRose told before now (next script) → IsOutcome told (next script) end → end ≡ answer)
-        → MatchResult r (λ script. Leads told before now (next script) answer) (λ e. answer ≡ Err e)
-        → MatchResult r (λ script. NoneRose told before now (next script)) (λ e. ⊤)
-        → MatchResult r (λ script. IsOutcome told (next script) end) (λ e. end ≡ Err e) → end ≡ answer
-    by (Ok script) more l n m = more script l n m
+    by : (r : Result (Found matter) Refusal) → ((x : Found matter) → Leads told before now (next x) answer → NoneRose told before now (next x) → IsOutcome told (next x) end → end ≡ answer)
+        → MatchResult r (λ x. Leads told before now (next x) answer) (λ e. answer ≡ Err e)
+        → MatchResult r (λ x. NoneRose told before now (next x)) (λ e. ⊤)
+        → MatchResult r (λ x. IsOutcome told (next x) end) (λ e. end ≡ Err e) → end ≡ answer
+    by (Ok x) more l n m = more x l n m
     by (Err e) more l n m = m ∙ sym l
 
 pub status_of-positive : (e : Refusal) → status_of e ≡ 0 → ⊥
@@ -65,6 +65,9 @@ status_of-positive (Lex offset) p = omega arith
 status_of-positive (Syntax offset) p = omega arith
 status_of-positive (TooDeep offset) p = omega arith
 status_of-positive (Bind kind offset) p = omega arith
+status_of-positive (Cyclic best needed) p = omega arith
+status_of-positive OrderNames p = omega arith
+status_of-positive (UnsafeOrder prefix) p = omega arith
 status_of-positive (Header table column) p = omega arith
 status_of-positive (Ragged table row) p = omega arith
 status_of-positive (BadField table row column) p = omega arith

@@ -12,7 +12,7 @@ use Rattle.sql_text.specs.declared.errors.ParseError.{ParseError}
 use Rattle.sql_text.specs.declared.errors.ParseError.TheVariants as parse_error
 use Rattle.sql_text.specs.Sentence.{IsReading, IsSentence, IsSyntaxError, IsTooDeep}
 use Rattle.rpt_cli.specs.declared.refusal.Refusal.{Refusal}
-use Rattle.rpt_cli.specs.declared.refusal.Refusal.TheVariants.{Usage, ReadFault, TooLarge, Lex, Syntax, TooDeep, Bind, Header, Ragged, BadField, NotUtf8, TooManyRows, WriteFault, Memory}
+use Rattle.rpt_cli.specs.declared.refusal.Refusal.TheVariants.{Usage, ReadFault, TooLarge, Lex, Syntax, TooDeep, Bind, Cyclic, OrderNames, UnsafeOrder, Header, Ragged, BadField, NotUtf8, TooManyRows, WriteFault, Memory}
 use Rattle.rpt_cli.specs.Scripts.{IsScript}
 
 -- a refusal of a reader as one of the program
@@ -48,6 +48,9 @@ read-only bytes tokens found same good only (Err Usage) h = absurd h
 read-only bytes tokens found same good only (Err (ReadFault name)) h = absurd h
 read-only bytes tokens found same good only (Err (TooLarge name)) h = absurd h
 read-only bytes tokens found same good only (Err (Bind kind at)) h = absurd h
+read-only bytes tokens found same good only (Err (Cyclic best needed)) h = absurd h
+read-only bytes tokens found same good only (Err OrderNames) h = absurd h
+read-only bytes tokens found same good only (Err (UnsafeOrder prefix)) h = absurd h
 read-only bytes tokens found same good only (Err (Header table column)) h = absurd h
 read-only bytes tokens found same good only (Err (Ragged table row)) h = absurd h
 read-only bytes tokens found same good only (Err (BadField table row column)) h = absurd h
@@ -67,6 +70,9 @@ bad-only bytes offset none same (Err Usage) h = absurd h
 bad-only bytes offset none same (Err (ReadFault name)) h = absurd h
 bad-only bytes offset none same (Err (TooLarge name)) h = absurd h
 bad-only bytes offset none same (Err (Bind kind at)) h = absurd h
+bad-only bytes offset none same (Err (Cyclic best needed)) h = absurd h
+bad-only bytes offset none same (Err OrderNames) h = absurd h
+bad-only bytes offset none same (Err (UnsafeOrder prefix)) h = absurd h
 bad-only bytes offset none same (Err (Header table column)) h = absurd h
 bad-only bytes offset none same (Err (Ragged table row)) h = absurd h
 bad-only bytes offset none same (Err (BadField table row column)) h = absurd h

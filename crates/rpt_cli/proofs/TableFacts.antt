@@ -8,9 +8,9 @@ use Rattle.rpt_outside.specs.Causes.{NeverFalls, Tells}
 use Rattle.rpt_base.specs.declared.values.Value.{Value}
 use Rattle.csv_load.specs.declared.refusal.LoadError.{LoadError}
 use Rattle.csv_load.specs.FileTable.{file_table}
-use Rattle.column_table.specs.Table.{Rows}
+use Rattle.column_table.specs.Table.{Rows, types_of}
 use Rattle.column_table.specs.declared.declared.Decl.{Decl}
-use Rattle.binder.specs.Query.{Query, types_of}
+use Rattle.binder.specs.Query.{Query}
 use Rattle.binder.specs.Answer.{AreTables}
 use Rattle.rpt_cli.specs.declared.refusal.Refusal.{Refusal}
 use Rattle.rpt_cli.specs.Words.{table_file}

@@ -1,5 +1,5 @@
 -- The course of a command: what it asks for and what it answers, in the order of refusals.
-use Rattle.std.specs.Prelude.{ℕ, ◌-◌, ◌∷◌, ◌++◌, sum, List, [], Result, Ok, Err, Option, None, Some, nat_lt, length, slice_get, if◌then◌else◌}
+use Rattle.std.specs.Prelude.{ℕ, ◌-◌, ◌∷◌, ◌++◌, sum, List, [], Result, Ok, Err, Option, None, Some, nat_lt, length, replicate, slice_get, if◌then◌else◌}
 use Rattle.std.specs.Option.{option_map_or}
 use Rattle.column_table.specs.declared.declared.ColumnDecl.{ColumnDecl}
 use Rattle.column_table.specs.declared.declared.Decl.{Decl}
@@ -7,12 +7,12 @@ use Rattle.rpt_base.specs.declared.limits.TheConstants.{MAX_SCRIPT_BYTES, MAX_TA
 use Rattle.rpt_base.specs.declared.values.Value.{Value}
 use Rattle.csv_load.specs.declared.refusal.LoadError.{LoadError}
 use Rattle.csv_load.specs.declared.refusal.LoadError.TheVariants as load_error
-use Rattle.csv_load.specs.FileTable.{file_table, kinds_of}
-use Rattle.column_table.specs.Table.{Rows}
-use Rattle.binder.specs.declared.found.Fault.{Fault}
+use Rattle.csv_load.specs.FileTable.{file_table}
+use Rattle.column_table.specs.Table.{Rows, types_of}
+use Rattle.script_rules.specs.declared.found.Fault.{Fault}
 use Rattle.binder.specs.Query.{Query}
 use Rattle.binder.specs.Binding.{query_of}
-use Rattle.binder.specs.Faults.{refusal_of as script_refusal}
+use Rattle.script_rules.specs.Faults.{refusal_of as script_refusal}
 use Rattle.binder.specs.Answer.{answer_of, counts_of}
 use Rattle.row_output.specs.OutputText.{output_text}
 use Rattle.sql_text.specs.declared.tree.Script.{Script}
@@ -20,7 +20,11 @@ use Rattle.rpt_cli.specs.declared.refusal.Refusal.{Refusal}
 use Rattle.rpt_cli.specs.declared.refusal.Refusal.TheVariants.{Usage, TooLarge, Bind, Header, Ragged, BadField, NotUtf8, TooManyRows, Memory}
 use Rattle.rpt_cli.specs.declared.words.Command.{Command}
 use Rattle.rpt_cli.specs.Words.{command_of, table_file}
-use Rattle.rpt_cli.specs.Course.{Answer, Course, Ends, Asks, Reads, goes_on}
+use Rattle.rpt_cli.specs.Course.{Answer, Course, Ends, Asks, Finds, goes_on}
+use Rattle.plan_report.specs.Report.{report_of}
+use Rattle.rpt_cli.specs.Matters.{Planning, Prepared, Preparing, Reading}
+use Rattle.rpt_cli.specs.declared.words.Mode.{Mode}
+use Rattle.rpt_cli.specs.declared.words.Mode.TheVariants as mode
 
 -- a file is asked for, whose contents have at most so many bytes
 abbrev pub asks_within : ℕ → List ℕ → (List ℕ → Course) → Course
@@ -46,7 +50,7 @@ refusal_of decl load_error.Memory = Memory
 
 -- a table with these rows, or its refusal
 abbrev pub table_or : Decl → Result (List (List Value)) LoadError → Result Rows Refusal
-table_or decl (Ok rows) = Ok (record { kinds = kinds_of decl.columns; rows = rows })
+table_or decl (Ok rows) = Ok (record { kinds = types_of decl.columns; rows = rows })
 table_or decl (Err e) = Err (refusal_of decl e)
 
 -- a table from the bytes of its file, or why there is none
@@ -56,6 +60,10 @@ table_of decl bytes = table_or decl (file_table MAX_ROWS decl.columns bytes)
 -- the text of the answer, where the relations' rows are within the limit together
 abbrev pub text_of : Query → List Rows → Answer
 text_of query tables = if nat_lt MAX_ROWS (sum (counts_of query tables)) then Err TooManyRows else Ok (output_text query tables (answer_of query tables))
+
+-- the sizes of relations of which nothing is known
+abbrev pub no_sizes : List (List ℕ) → List ℕ
+no_sizes sets = replicate (length sets) 0
 
 -- the tables' files are asked for one after the other, in the order of first use, with at most so many bytes together, and the
 -- query is answered over the tables
@@ -69,17 +77,32 @@ tables_course folder query room tables (decl ∷ decls) =
 abbrev pub query_course : ℕ → List ℕ → Query → Course
 query_course limit folder query = tables_course folder query limit [] query.tables
 
+-- how a query is answered is reported, with all sizes 0, since no table is read
+abbrev pub check_course : Query → Prepared → Course
+check_course query prepared =
+    Finds (Planning prepared.known.sets (no_sizes prepared.known.sets) prepared.order)
+    (λ plan. Ends (Ok (report_of query prepared.known plan.tree plan.order plan.lists)))
+
+-- a query that can be answered, in a mode
+abbrev pub mode_course : ℕ → Mode → List ℕ → Query → Prepared → Course
+mode_course limit mode.Run folder query prepared = query_course limit folder query
+mode_course limit mode.Check folder query prepared = check_course query prepared
+
+-- a bound query, which is prepared with the order that is given
+abbrev pub bound_course : ℕ → Command → Query → Course
+bound_course limit command query = Finds (Preparing query command.order command.force) (mode_course limit command.mode command.folder query)
+
 -- what a script leads to
-abbrev pub read_course : ℕ → List ℕ → Script → Course
-read_course limit folder script = goes_on (query_or (script_refusal script) (query_of script)) (query_course limit folder)
+abbrev pub read_course : ℕ → Command → Script → Course
+read_course limit command script = goes_on (query_or (script_refusal script) (query_of script)) (bound_course limit command)
 
 -- what a script's bytes lead to
-abbrev pub script_course : ℕ → List ℕ → List ℕ → Course
-script_course limit folder bytes = Reads bytes (read_course limit folder)
+abbrev pub script_course : ℕ → Command → List ℕ → Course
+script_course limit command bytes = Finds (Reading bytes) (read_course limit command)
 
 -- the script is asked for first
 abbrev pub command_course : Command → Course
-command_course command = asks_within MAX_SCRIPT_BYTES command.script (script_course MAX_TABLE_BYTES command.folder)
+command_course command = asks_within MAX_SCRIPT_BYTES command.script (script_course MAX_TABLE_BYTES command)
 
 -- words that are no command end the course at once
 abbrev pub course_of : Option Command → Course

@@ -1,5 +1,7 @@
 pub mod Words
 pub mod Scripts
+pub mod Orders
+pub mod Matters
 pub mod Course
 pub mod Command
 pub mod Message

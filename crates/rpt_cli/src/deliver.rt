@@ -39,7 +39,7 @@ fn status(refusal: &Refusal) -> u8
 {
     match refusal {
         Refusal::Memory => 1,
-        Refusal::Usage => 2,
+        Refusal::Usage | Refusal::OrderNames => 2,
         Refusal::ReadFault { .. } => 3,
         Refusal::WriteFault => 4,
         Refusal::Lex { .. } | Refusal::Syntax { .. } | Refusal::TooDeep { .. } => 5,
@@ -48,6 +48,8 @@ fn status(refusal: &Refusal) -> u8
         | Refusal::Ragged { .. }
         | Refusal::BadField { .. }
         | Refusal::NotUtf8 { .. } => 7,
+        Refusal::Cyclic { .. } => 8,
+        Refusal::UnsafeOrder { .. } => 9,
         Refusal::TooLarge { .. } | Refusal::TooManyRows => 10,
     }
 }

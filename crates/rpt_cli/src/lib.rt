@@ -5,12 +5,16 @@
 //! of the definitions in `specs/`, and every other status has its cause there.
 #![tactic(auto)]
 
+mod check;
 mod deliver;
 mod fetch;
 mod follow;
 mod message;
+mod orders;
+mod prepared;
 mod refusal;
 mod script;
+mod settings;
 mod tables;
 mod top;
 mod words;
@@ -18,9 +22,4 @@ mod words;
 pub use message::put_line;
 pub use refusal::Refusal;
 pub use top::run_command;
-pub use words::{Command, WordsError, read_words};
-
-#[cfg(test)]
-mod join_tests;
-#[cfg(test)]
-mod tests;
+pub use words::{Command, Mode, WordsError, read_words};

@@ -3,7 +3,7 @@ ghost use Rattle.std.specs.Prelude.{◌≡◌, ◌<◌, ◌++◌, codes};
 ghost use Rattle.std.specs.Fmt.{decimal};
 ghost use Rattle.rpt_outside.specs.Causes.{Puts};
 ghost use Rattle.rpt_cli.specs.Message.{line_end, line_of, text_of as bind_text, part_text, parts_text};
-ghost use Rattle.rpt_cli.specs.declared.refusal.Refusal.TheVariants.{Bind, Header, Ragged};
+ghost use Rattle.rpt_cli.specs.declared.refusal.Refusal.TheVariants.{Bind, Cyclic, Header, Ragged};
 
 use crate::refusal::Refusal;
 use Part::{Number, Text};
@@ -48,6 +48,9 @@ fn parts(refusal: &Refusal) -> [Part<'_>; 7]
         Refusal::Syntax { offset } => placed(b"rpt: syntax error at ", *offset),
         Refusal::TooDeep { offset } => placed(b"rpt: nested too deep at ", *offset),
         Refusal::Bind { kind, offset } => unbound(*kind, *offset),
+        Refusal::Cyclic { best, needed } => cyclic(*best, *needed),
+        Refusal::OrderNames => plain(b"rpt: order is not a permutation of the relations"),
+        Refusal::UnsafeOrder { prefix } => placed(b"rpt: unsafe order at prefix ", *prefix),
         Refusal::Header { table, column } => headed(table, column),
         Refusal::Ragged { table, row } => ragged(table, *row),
         Refusal::BadField { table, row, column } => field(
@@ -94,6 +97,20 @@ fn unbound<'a>(kind: BindKind, offset: u32) -> [Part<'a>; 7]
         Text(text_of(kind)),
         Text(b" at "),
         Number(offset),
+        END,
+        NONE,
+        NONE,
+    ]
+}
+
+fn cyclic<'a>(best: u32, needed: u32) -> [Part<'a>; 7]
+    ensures { parts_text result ≡ line_of (Cyclic best needed) }
+{
+    [
+        Text(b"rpt: cyclic: weight "),
+        Number(best),
+        Text(b" of "),
+        Number(needed),
         END,
         NONE,
         NONE,

@@ -20,6 +20,13 @@ pub enum Refusal {
     TooDeep { offset: u32 },
     /// The script isn't bound, for what stands at this offset.
     Bind { kind: BindKind, offset: u32 },
+    /// The query has no join list: its heaviest list of relations has this weight, and a join list needs that.
+    Cyclic { best: u32, needed: u32 },
+    /// The order's pieces aren't the names of all relations, each once.
+    OrderNames,
+    /// So many first relations of the order, and no fewer, can't be joined before the others without risk: they are no safe
+    /// set.
+    UnsafeOrder { prefix: u32 },
     /// This column doesn't stand exactly once in the header of this table's file.
     Header { table: Str, column: Str },
     /// The record of this row has another number of fields than the header.

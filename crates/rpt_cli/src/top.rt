@@ -1,5 +1,5 @@
 // The top call.
-ghost use Rattle.std.specs.Prelude.{◌≡◌, ◌≢◌, ◌⊎◌, ◌<◌, ◌+◌, ◌-◌, ◌^◌, List, ℕ, min, IsOk, IsOkAnd};
+ghost use Rattle.std.specs.Prelude.{◌≡◌, ◌≢◌, ◌⊎◌, ◌<◌, ◌+◌, ◌-◌, ◌^◌, List, ℕ, min, IfSome, IsOk, IsOkAnd, IsSome};
 ghost use Rattle.std.specs.Io.KnownBytes.{Appends};
 ghost use Rattle.rpt_outside.specs.Causes.{Rose};
 ghost use Rattle.rpt_outside.specs.Whole.{bytes_of};
@@ -40,8 +40,8 @@ pub fn run_command<R: Threads + Sync, F: Files, S: Sink, M: Sink, G: Gate + Sync
     ensures text { result ≡ 0 → (answer : Answer) → IsOutcome (F.contents files.old) (course (words_of words.now)) answer
         → IsOkAnd answer (λ text. Appends (S.taken out.old) (S.taken out.new) text) }
 
-    // No usage, read fault or write fault without its cause.
-    ensures usage { result ≡ 2 → command_of (words_of words.now) ≡ None }
+    // No usage, read fault or write fault without its cause: on status 2 the words are no command, or they give an order.
+    ensures usage { result ≡ 2 → IfSome (command_of (words_of words.now)) (λ command. IsSome command.order) }
     ensures read_fault { result ≡ 3 → (name : List ℕ) × Rose (F.faults files.old name) (F.faults files.new name) }
     ensures write_fault { result ≡ 4 → Rose (S.faults out.old) (S.faults out.new) }
 

@@ -16,7 +16,7 @@ returns-in-Ok g c =
     let command = c.args.command.now in
     let bytes = c.in-Ok.bytes.items in
     let answer = bytes_of c.answer_script.result in
-    let gives : Gives held later now (script_course _ command.folder bytes) answer =
-    subst (λ (b : List ℕ). Gives held later now (script_course _ command.folder b) answer) c.deref.ensures.value c.answer_script.ensures in
-    asks_within-Gives told held before later now _ command.script (script_course _ command.folder) bytes answer
+    let gives : Gives held later now (script_course _ command bytes) answer =
+    subst (λ (b : List ℕ). Gives held later now (script_course _ command b) answer) c.deref.ensures.value c.answer_script.ensures in
+    asks_within-Gives told held before later now _ command.script (script_course _ command) bytes answer
     c.in-Ok.ensures.contents c.in-Ok.ensures.later c.in-Ok.ensures.fetches.0 c.in-Ok.ensures.fetches.1 gives

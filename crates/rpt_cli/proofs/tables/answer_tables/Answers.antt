@@ -11,30 +11,30 @@ pub returns-in-Err : goal.returns-in-Err
 returns-in-Err g c =
     let files = g.F.Files in
     HasCome-refused (files.contents c.args.files.now) (files.contents c.tables.files) (files.faults c.args.files.now) (files.faults c.tables.files) (files.faults c.next_table.new.files)
-    c.args.limit c.args.folder.now c.args.bound.now c.tables.room c.tables.tables.items c.tables.number c.decl.result.now c.in-Err.refusal
+    c.args.limit c.args.folder.now c.args.bound.now.query c.tables.room c.tables.tables.items c.tables.number c.decl.result.now c.in-Err.refusal
     c.tables.invariant c.decl.ensures.decl c.in-Err.ensures.refused
 
 pub tables-preserved : goal.tables-preserved
 tables-preserved g c =
     let files = g.F.Files in
     let has = HasCome-next (files.contents c.args.files.now) (files.contents c.tables.files) (files.contents c.next_table.new.files) (files.faults c.args.files.now) (files.faults c.tables.files) (files.faults c.next_table.new.files)
-    c.args.limit c.args.folder.now c.args.bound.now c.tables.room c.tables.tables.items c.tables.number c.decl.result.now c.in-Ok.next.0 c.in-Ok.next.1
+    c.args.limit c.args.folder.now c.args.bound.now.query c.tables.room c.tables.tables.items c.tables.number c.decl.result.now c.in-Ok.next.0 c.in-Ok.next.1
     c.tables.invariant c.decl.ensures.decl c.in-Ok.ensures.table c.next_table.ensures.contents c.next_table.ensures.later in
     let items = pushed c.push.result c.push.new.self.items c.tables.tables.items c.in-Ok.next.0 c.push.ensures.items (sym c.is_err.ensures.value ∙ c.if-is_err.false) in
     subst (λ (tables : List Rows). HasCome (files.contents c.args.files.now) (files.contents c.next_table.new.files) (files.faults c.args.files.now) (files.faults c.next_table.new.files)
-    c.args.limit c.args.folder.now c.args.bound.now (c.tables.room - c.in-Ok.next.1) tables (c.tables.number + 1)) (sym items) has
+    c.args.limit c.args.folder.now c.args.bound.now.query (c.tables.room - c.in-Ok.next.1) tables (c.tables.number + 1)) (sym items) has
 
 pub text_over-requires : goal.text_over-requires
 text_over-requires g c =
     let files = g.F.Files in
-    subst (λ (tables : List Rows). AreTables c.args.bound.now tables) (sym c.as_slice.ensures.value)
+    subst (λ (tables : List Rows). AreTables c.args.bound.now.query tables) (sym c.as_slice.ensures.value)
     (HasCome-AreTables (files.contents c.args.files.now) (files.contents c.tables.files) (files.faults c.args.files.now) (files.faults c.tables.files)
-    c.args.limit c.args.folder.now c.args.bound.now c.tables.room c.tables.tables.items c.tables.number c.tables.invariant (omega (arith, c.tables-test.false, c.tables-number-end.ensures.count)))
+    c.args.limit c.args.folder.now c.args.bound.now.query c.tables.room c.tables.tables.items c.tables.number c.tables.invariant (omega (arith, c.tables-test.false, c.tables-number-end.ensures.count)))
 
 pub returns : goal.returns
 returns g c =
     let files = g.F.Files in
     HasCome-ends (files.contents c.args.files.now) (files.contents c.tables.files) (files.faults c.args.files.now) (files.faults c.tables.files)
-    c.args.limit c.args.folder.now c.args.bound.now c.tables.room c.tables.tables.items c.tables.number (bytes_of c.text_over.result)
+    c.args.limit c.args.folder.now c.args.bound.now.query c.tables.room c.tables.tables.items c.tables.number (bytes_of c.text_over.result)
     c.tables.invariant (omega (arith, c.tables-test.false, c.tables-number-end.ensures.count))
-    (subst (λ (tables : List Rows). Makes (text_of c.args.bound.now tables) (bytes_of c.text_over.result)) c.as_slice.ensures.value c.text_over.ensures)
+    (subst (λ (tables : List Rows). Makes (text_of c.args.bound.now.query tables) (bytes_of c.text_over.result)) c.as_slice.ensures.value c.text_over.ensures)

@@ -1,11 +1,9 @@
 // Scripts over several tables, and over any condition.
-use crate::tests::{Ran, answers, refuses, run_over, sink};
-use rpt_outside::MemoryFiles;
+use crate::running::{Ran, answers, refuses, run_script};
 use std::alloc::{AllocError, Global};
 use std::test::Fail;
 use std::thread::Threads;
 
-// A run of the script over tables' files, whose calls on the files fail by number.
 fn run<R: Threads + Sync>(
     rt: &R,
     alloc: Global,
@@ -13,23 +11,7 @@ fn run<R: Threads + Sync>(
     tables: &[(&str, &str)],
     fail: &[u32],
 ) -> Result<Ran, Fail> {
-    let mut files = Vec::new(alloc);
-    files.push((b"q.sql".to_vec(alloc)?, script.as_bytes().to_vec(alloc)?))?;
-    for (name, text) in tables {
-        files.push((
-            name.as_bytes().to_vec(alloc)?,
-            text.as_bytes().to_vec(alloc)?,
-        ))?;
-    }
-    let files = MemoryFiles::new(alloc, files, fail.to_vec(alloc)?, 65_536)?;
-    run_over(
-        rt,
-        alloc,
-        &["run", "q.sql", "d"],
-        files,
-        sink(alloc)?,
-        sink(alloc)?,
-    )
+    run_script(rt, alloc, &["run", "q.sql", "d"], script, tables, fail)
 }
 
 #[test]

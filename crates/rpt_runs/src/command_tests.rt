@@ -1,7 +1,8 @@
-use crate::{Refusal, put_line, read_words, run_command};
-use rpt_outside::{MemoryFiles, MemorySink, OpenGate};
+// Runs over one table, and what the words, the files and the sinks may do.
+use crate::running::{Ran, answers, refuses, run_over, sink, texts};
+use rpt_cli::{Mode, Refusal, put_line, read_words};
+use rpt_outside::{MemoryFiles, MemorySink};
 use std::alloc::{AllocError, Global};
-use std::process::Abort;
 use std::test::Fail;
 use std::thread::Threads;
 
@@ -11,56 +12,11 @@ const TABLE: &[u8] = b"x,y\n1,a\n2,b\n3,c\n";
 
 const ROOM: u32 = 1_048_576;
 
-// What a call answered, and what the two sinks took.
-#[derive(Drop)]
-pub(crate) struct Ran {
-    pub(crate) status: u8,
-    pub(crate) out: MemorySink,
-    pub(crate) messages: MemorySink,
-}
-
-fn texts(alloc: Global, words: &[&str]) -> Result<Vec<String>, AllocError> {
-    let mut all = Vec::new(alloc);
-    for word in words {
-        all.push(String::from_str(alloc, word)?)?;
-    }
-    Ok(all)
-}
-
 fn files_of(alloc: Global, script: &[u8], table: &[u8], fail: &[u32]) -> Result<MemoryFiles, Fail> {
     let mut files = Vec::new(alloc);
     files.push((b"q.sql".to_vec(alloc)?, script.to_vec(alloc)?))?;
     files.push((b"d/t.csv".to_vec(alloc)?, table.to_vec(alloc)?))?;
     Ok(MemoryFiles::new(alloc, files, fail.to_vec(alloc)?, 65_536)?)
-}
-
-pub(crate) fn run_over<R: Threads + Sync>(
-    rt: &R,
-    alloc: Global,
-    words: &[&str],
-    mut files: MemoryFiles,
-    mut out: MemorySink,
-    mut messages: MemorySink,
-) -> Result<Ran, Fail> {
-    let words = texts(alloc, words)?;
-    let status = run_command(
-        rt,
-        alloc,
-        &words,
-        &mut files,
-        &mut out,
-        &mut messages,
-        &OpenGate,
-    );
-    Ok(Ran {
-        status,
-        out,
-        messages,
-    })
-}
-
-pub(crate) fn sink(alloc: Global) -> Result<MemorySink, Fail> {
-    Ok(MemorySink::new(alloc, ROOM, Vec::new(alloc))?)
 }
 
 // A run of the script over one table, whose calls on the files fail by number.
@@ -80,18 +36,6 @@ fn run<R: Threads + Sync>(
         sink(alloc)?,
         sink(alloc)?,
     )
-}
-
-pub(crate) fn answers(rt: &impl Abort, ran: &Ran, text: &[u8]) {
-    assert_eq!(rt; ran.messages.bytes(), b"".as_slice());
-    assert_eq!(rt; ran.out.bytes(), text);
-    assert_eq!(rt; ran.status, 0);
-}
-
-pub(crate) fn refuses(rt: &impl Abort, ran: &Ran, status: u8, line: &str) {
-    assert_eq!(rt; ran.messages.bytes(), line.as_bytes());
-    assert_eq!(rt; ran.out.bytes(), b"".as_slice());
-    assert_eq!(rt; ran.status, status);
 }
 
 #[test]
@@ -260,7 +204,7 @@ fn a_table_has_at_most_64_columns(rt: HostRuntime) -> Result<(), Fail> {
 #[test]
 fn words_that_are_no_command_are_refused(rt: HostRuntime) -> Result<(), Fail> {
     let alloc = rt.alloc();
-    let cases: [&[&str]; 7] = [
+    let cases: [&[&str]; 13] = [
         &[],
         &["run", "q.sql"],
         &["walk", "q.sql", "d"],
@@ -268,6 +212,12 @@ fn words_that_are_no_command_are_refused(rt: HostRuntime) -> Result<(), Fail> {
         &["run", "-q.sql", "d"],
         &["run", "q.sql", "-"],
         &["run", "q.sql", "d", "--help"],
+        &["run", "q.sql", "d", "--force", "--force"],
+        &["run", "q.sql", "d", "--order"],
+        &["run", "q.sql", "d", "--order", "--force"],
+        &["run", "q.sql", "d", "--order", "t", "--order", "t"],
+        &["run", "q.sql", "d", "--order=t"],
+        &["run", "--force", "q.sql", "d"],
     ];
     for words in cases {
         let files = files_of(alloc, SCRIPT.as_bytes(), TABLE, &[])?;
@@ -284,10 +234,16 @@ fn words_that_are_no_command_are_refused(rt: HostRuntime) -> Result<(), Fail> {
 
 #[test]
 fn the_words_of_a_command_are_read(rt: HostRuntime) -> Result<(), Fail> {
-    let words = texts(rt.alloc(), &["run", "q.sql", ""])?;
+    let words = texts(
+        rt.alloc(),
+        &["check", "q.sql", "", "--force", "--order", "b,a"],
+    )?;
     let command = read_words(rt.alloc(), &words)?;
+    assert_eq!(rt; command.mode, Mode::Check);
     assert_eq!(rt; command.script.as_str(), "q.sql");
     assert_eq!(rt; command.folder.as_str(), "");
+    assert!(rt; command.order.is_some_and(|order| order.as_str() == "b,a"));
+    assert!(rt; command.force);
     Ok(())
 }
 

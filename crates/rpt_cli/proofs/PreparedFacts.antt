@@ -1,0 +1,152 @@
+-- That there is one way in which a query is prepared or refused.
+use Rattle.std.proofs.Common.{◌≡◌, ◌∙◌, ◌⊎◌, inl, inr, ap, sym, subst, refl, ℕ, ◌<◌, List, length}
+use Rattle.std.proofs.lemmas.Bool.{cases_order}
+use Rattle.std.specs.Prelude.{Bool, true, false, Option, None, Some, Result, Ok, Err}
+use Rattle.column_classes.specs.Variables.{QueryVariables}
+use Rattle.column_classes.proofs.Unique.{variables-unique}
+use Rattle.join_graph.specs.JoinList.{IsAcyclic}
+use Rattle.join_graph.specs.Weights.{weight_of}
+use Rattle.join_graph.proofs.WeightFacts.{one-best}
+use Rattle.largest_root.specs.Greedy.{IsCyclic}
+use Rattle.safe_subjoin.specs.SafeOrder.{IsFirstUnsafe}
+use Rattle.rpt_engine.specs.Prepared.{IsAllowed, IsUnprepared, IsUnsafeAt}
+use Rattle.rpt_engine.specs.declared.errors.PrepareError.{PrepareError}
+use Rattle.rpt_engine.specs.declared.errors.PrepareError.TheVariants as prepare_error
+use Rattle.rpt_cli.specs.Steps.{why_unprepared}
+use Rattle.binder.specs.Query.{Query, widths_of}
+use Rattle.rpt_cli.specs.declared.refusal.Refusal.{Refusal}
+use Rattle.rpt_cli.specs.declared.refusal.Refusal.TheVariants.{Usage, ReadFault, TooLarge, Lex, Syntax, TooDeep, Bind, Cyclic, OrderNames, UnsafeOrder, Header, Ragged, BadField, NotUtf8, TooManyRows, WriteFault, Memory}
+use Rattle.rpt_cli.specs.Course.{IsFoundAs}
+use Rattle.rpt_cli.specs.Matters.{AreKnown, IsPrepared, Prepared, Preparing}
+use Rattle.rpt_cli.specs.Orders.{order_of}
+
+-- why a query isn't prepared
+pub data Refused (query : Query) (order : Option (List ℕ)) (force : Bool) : Refusal → Type 0 where
+  ByCycle : (best needed : ℕ) (known : QueryVariables) → AreKnown query known → IsCyclic known.sets best needed → Refused query order force (Cyclic best needed)
+  ByNames : (known : QueryVariables) → AreKnown query known → IsAcyclic known.sets → order_of query order ≡ None → Refused query order force OrderNames
+  ByPrefix : (prefix : ℕ) (known : QueryVariables) → AreKnown query known → IsAcyclic known.sets → (named : Option (List ℕ)) → order_of query order ≡ Some named
+      → IsUnsafeAt known.sets named force prefix → Refused query order force (UnsafeOrder prefix)
+
+pub why-refused : (query : Query) (order : Option (List ℕ)) (force : Bool) (e : Refusal) → IsPrepared query order force (Err e) → Refused query order force e
+why-refused query order force (Cyclic best needed) h = ByCycle best needed h.0 h.1 h.2
+why-refused query order force OrderNames h = ByNames h.0 h.1 h.2 h.3
+why-refused query order force (UnsafeOrder prefix) h = ByPrefix prefix h.0 h.1 h.2 h.3 h.4 h.5
+why-refused query order force Usage h = absurd h
+why-refused query order force (ReadFault name) h = absurd h
+why-refused query order force (TooLarge name) h = absurd h
+why-refused query order force (Lex offset) h = absurd h
+why-refused query order force (Syntax offset) h = absurd h
+why-refused query order force (TooDeep offset) h = absurd h
+why-refused query order force (Bind kind offset) h = absurd h
+why-refused query order force (Header table column) h = absurd h
+why-refused query order force (Ragged table row) h = absurd h
+why-refused query order force (BadField table row column) h = absurd h
+why-refused query order force (NotUtf8 table row column) h = absurd h
+why-refused query order force TooManyRows h = absurd h
+why-refused query order force WriteFault h = absurd h
+why-refused query order force Memory h = absurd h
+
+-- the first unsafe prefix is one
+first-unsafe : (vs : List (List ℕ)) (order : List ℕ) (a b : ℕ) → IsFirstUnsafe vs order a → IsFirstUnsafe vs order b → a ≡ b
+first-unsafe vs order a b p q = by (cases_order a b)
+  where
+    by : (a ≡ b) ⊎ ((a < b) ⊎ (b < a)) → a ≡ b
+    by (inl same) = same
+    by (inr (inl lt)) = absurd (p.unsafe (q.before a p.some lt))
+    by (inr (inr lt)) = absurd (q.unsafe (p.before b q.some lt))
+
+unsafe-one : (vs : List (List ℕ)) (order : Option (List ℕ)) (force : Bool) (a b : ℕ) → IsUnsafeAt vs order force a → IsUnsafeAt vs order force b → a ≡ b
+unsafe-one vs None force a b p q = absurd p
+unsafe-one vs (Some order) true a b p q = absurd p
+unsafe-one vs (Some order) false a b p q = first-unsafe vs order a b p q
+
+-- what is allowed has no unsafe prefix
+allowed-safe : (vs : List (List ℕ)) (order : Option (List ℕ)) (force : Bool) (prefix : ℕ) → IsAllowed vs order force → IsUnsafeAt vs order force prefix → ⊥
+allowed-safe vs None force prefix allowed at = at
+allowed-safe vs (Some order) true prefix allowed at = at
+allowed-safe vs (Some order) false prefix allowed at = at.unsafe (allowed prefix at.some at.within)
+
+some-same : {X : Type 0} (a b : X) → ◌≡◌ {A = Option X} (Some a) (Some b) → a ≡ b
+some-same a b e = cc
+
+none-some : {X : Type 0} (a : X) → ◌≡◌ {A = Option X} None (Some a) → ⊥
+none-some a e = cc e
+
+module _ (query : Query) (order : Option (List ℕ)) (force : Bool) where
+  one-known : (a b : QueryVariables) → AreKnown query a → AreKnown query b → a ≡ b
+  one-known a b p q = variables-unique (widths_of query) query.equalities a b p q
+
+  -- a cycle is none of other variables
+  not-both : (a b : QueryVariables) (best needed : ℕ) → AreKnown query a → AreKnown query b → IsAcyclic a.sets → IsCyclic b.sets best needed → ⊥
+  not-both a b best needed p q acyclic cyclic = cyclic.none (subst (λ (k : QueryVariables). IsAcyclic k.sets) (one-known a b p q) acyclic)
+
+  one-refusal : (e f : Refusal) → Refused query order force e → Refused query order force f → f ≡ e
+  one-refusal e f (ByCycle best needed a p cyclic) (ByCycle most sum b q other) =
+      let here : IsCyclic a.sets most sum = subst (λ (k : QueryVariables). IsCyclic k.sets most sum) (one-known b a q p) other in
+      let same : most ≡ best = one-best (length a.sets) (weight_of a.sets) most best here.heaviest cyclic.heaviest in
+      let needs : sum ≡ needed = here.sum ∙ sym cyclic.sum in
+      rw (same, needs) refl
+  one-refusal e f (ByCycle best needed a p cyclic) (ByNames b q acyclic none) = absurd (not-both b a best needed q p acyclic cyclic)
+  one-refusal e f (ByCycle best needed a p cyclic) (ByPrefix prefix b q acyclic named is at) = absurd (not-both b a best needed q p acyclic cyclic)
+  one-refusal e f (ByNames a p acyclic none) (ByCycle most sum b q cyclic) = absurd (not-both a b most sum p q acyclic cyclic)
+  one-refusal e f (ByNames a p acyclic none) (ByNames b q other nones) = refl
+  one-refusal e f (ByNames a p acyclic none) (ByPrefix prefix b q other named is at) = absurd (none-some named (sym none ∙ is))
+  one-refusal e f (ByPrefix prefix a p acyclic named is at) (ByCycle most sum b q cyclic) = absurd (not-both a b most sum p q acyclic cyclic)
+  one-refusal e f (ByPrefix prefix a p acyclic named is at) (ByNames b q other none) = absurd (none-some named (sym none ∙ is))
+  one-refusal e f (ByPrefix prefix a p acyclic named is at) (ByPrefix last b q other name names there) =
+      let same : name ≡ named = some-same name named (sym names ∙ is) in
+      let here : IsUnsafeAt a.sets named force last =
+      subst (λ (k : QueryVariables). IsUnsafeAt k.sets named force last) (one-known b a q p) (subst (λ (o : Option (List ℕ)). IsUnsafeAt b.sets o force last) same there) in
+      ap (λ (n : ℕ). UnsafeOrder n) (unsafe-one a.sets named force last prefix here at)
+
+  not-refused : (found : Prepared) (e : Refusal) → IsPrepared query order force (Ok found) → Refused query order force e → ⊥
+  not-refused found e h (ByCycle best needed b q cyclic) = not-both found.known b best needed h.0 q h.1 cyclic
+  not-refused found e h (ByNames b q acyclic none) = none-some found.order (sym none ∙ h.2)
+  not-refused found e h (ByPrefix prefix b q acyclic named is at) =
+      let same : named ≡ found.order = some-same named found.order (sym is ∙ h.2) in
+      let here : IsUnsafeAt found.known.sets found.order force prefix =
+      subst (λ (k : QueryVariables). IsUnsafeAt k.sets found.order force prefix) (one-known b found.known q h.0) (subst (λ (o : Option (List ℕ)). IsUnsafeAt b.sets o force prefix) same at) in
+      allowed-safe found.known.sets found.order force prefix h.3 here
+
+  one-found : (a b : Prepared) → IsPrepared query order force (Ok a) → IsPrepared query order force (Ok b) → b ≡ a
+  one-found a b h k =
+      let known : b.known ≡ a.known = one-known b.known a.known k.0 h.0 in
+      let named : b.order ≡ a.order = some-same b.order a.order (sym k.2 ∙ h.2) in
+      λ i. record { known = known i; order = named i }
+
+  -- a query is prepared in one way, or refused in one
+  pub prepared-only : (a b : Result Prepared Refusal) → IsPrepared query order force a → IsPrepared query order force b → b ≡ a
+  prepared-only (Ok a) (Ok b) h k = ap Ok (one-found a b h k)
+  prepared-only (Ok a) (Err e) h k = absurd (not-refused a e h (why-refused query order force e k))
+  prepared-only (Err e) (Ok b) h k = absurd (not-refused b e k (why-refused query order force e h))
+  prepared-only (Err e) (Err f) h k = ap Err (one-refusal e f (why-refused query order force e h) (why-refused query order force f k))
+
+-- where no order was tried, an error of the engine is a refusal of the query
+pub unprepared-first : (query : Query) (known : QueryVariables) (text : Option (List ℕ)) (force : Bool) (e : PrepareError) → AreKnown query known → IsUnprepared known.sets None force e
+    → (why_unprepared e ≡ Memory) ⊎ IsPrepared query text force (Err (why_unprepared e))
+unprepared-first query known text force (prepare_error.Cyclic best needed) are h = inr (known, are, h)
+unprepared-first query known text force (prepare_error.UnsafeOrder prefix) are h = absurd h.1
+unprepared-first query known text force prepare_error.Memory are h = inl refl
+
+-- and so it is where the order that was tried is the one that is given
+pub unprepared-then : (query : Query) (known : QueryVariables) (text named : Option (List ℕ)) (force : Bool) (e : PrepareError) → AreKnown query known → order_of query text ≡ Some named
+    → IsUnprepared known.sets named force e → (why_unprepared e ≡ Memory) ⊎ IsPrepared query text force (Err (why_unprepared e))
+unprepared-then query known text named force (prepare_error.Cyclic best needed) are is h = inr (known, are, h)
+unprepared-then query known text named force (prepare_error.UnsafeOrder prefix) are is h = inr (known, are, h.0, named, is, h.1)
+unprepared-then query known text named force prepare_error.Memory are is h = inl refl
+
+-- names that are no order are refused, where there is a join list
+pub unnamed : (query : Query) (known : QueryVariables) (text : Option (List ℕ)) (force : Bool) (e : Refusal) → AreKnown query known → IsAcyclic known.sets
+    → (e ≡ Memory) ⊎ ((e ≡ OrderNames) × (order_of query text ≡ None)) → (e ≡ Memory) ⊎ IsPrepared query text force (Err e)
+unnamed query known text force e are acyclic (inl memory) = inl memory
+unnamed query known text force e are acyclic (inr (is, none)) =
+    inr (subst (λ (r : Refusal). IsPrepared query text force (Err r)) (sym is) (known, are, acyclic, none))
+
+-- what is found is the only thing to be found, and so is a refusal
+pub prepared-found : (query : Query) (order : Option (List ℕ)) (force : Bool) (found : Prepared) → IsPrepared query order force (Ok found) → IsFoundAs (Preparing query order force) (Ok found)
+prepared-found query order force found h = (h, λ other other_is. prepared-only query order force (Ok found) other h other_is)
+
+pub prepared-refused : (query : Query) (order : Option (List ℕ)) (force : Bool) (e : Refusal) → (e ≡ Memory) ⊎ IsPrepared query order force (Err e)
+    → (e ≡ Memory) ⊎ IsFoundAs (Preparing query order force) (Err e)
+prepared-refused query order force e (inl memory) = inl memory
+prepared-refused query order force e (inr h) = inr (h, λ other other_is. prepared-only query order force (Err e) other h other_is)
