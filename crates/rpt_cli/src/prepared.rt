@@ -14,6 +14,11 @@ use rpt_base::{FilterKind, Listed, Str};
 use rpt_engine::{Options, PrepareError, Prepared, prepare};
 use std::alloc::Global;
 
+// How a query is answered where the words say nothing else.
+const WORKERS: u32 = 4;
+
+const MORSEL: u32 = 1024;
+
 /// What is needed to answer a query.
 #[derive(Drop)]
 pub(crate) struct Ready {
@@ -69,8 +74,8 @@ fn ready_for(
 {
     let options = Options {
         filter: FilterKind::Exact,
-        workers: 4,
-        morsel: 1024,
+        workers: WORKERS,
+        morsel: MORSEL,
         order,
         force,
     };

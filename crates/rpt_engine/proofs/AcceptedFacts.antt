@@ -14,6 +14,6 @@ lists-accepted vs order d lists are k some within =
 
 -- and so is it where it is given and not forced
 pub accepted-allowed : (vs : List (List ℕ)) (order : List ℕ) (given : Option (List ℕ)) (force : Bool) → given ≡ Some order → force ≡ false → IsAccepted vs order → IsAllowed vs given force
-accepted-allowed vs order None force g f accepted = cc g
+accepted-allowed vs order None force g f accepted = absurd (let no : None ≡ Some order = g in cc)
 accepted-allowed vs order (Some other) true g f accepted = tt
 accepted-allowed vs order (Some other) false g f accepted = (let same : order ≡ other = cc in subst (λ (o : List ℕ). IsAccepted vs o) same accepted)
