@@ -18,10 +18,11 @@ use std::thread::Threads;
 
 /// Answers the words of a command line, without the program's name, and gives the status.
 ///
-/// The words `run SCRIPT DIR` put the answer of the script over the table's file in the folder to `out`, and the status is
-/// 0. Otherwise one line is put to `messages`, and the status says why: 1 want of memory, 2 no command, 3 a file can't be
-/// read, 4 the output can't be written, 5 no script, 6 the script doesn't bind, 7 a bad table, 10 a file is too large or a
-/// table has too many rows. Nothing is put to `out` then, but on status 4 a prefix of the text.
+/// The words `run SCRIPT DIR` put the answer of the script over the tables' files in the folder to `out`, and `check SCRIPT DIR` the
+/// report of how it is answered; the status is 0 then. Otherwise one line is put to `messages`, and the status says why: 1 want of
+/// memory, 2 no command or an order that isn't one of the relations, 3 a file can't be read, 4 the output can't be written, 5 no
+/// script, 6 the script doesn't bind, 7 a bad table, 8 a cyclic query, 9 an unsafe order, 10 a file is too large or there are too
+/// many rows. Nothing is put to `out` then, but on status 4 a prefix of the text.
 pub fn run_command<R: Threads + Sync, F: Files, S: Sink, M: Sink, G: Gate + Sync>(
     rt: &R,
     alloc: Global,
