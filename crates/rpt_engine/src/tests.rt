@@ -1,3 +1,5 @@
+ghost use Rattle.std.specs.Prelude.{◌≡◌};
+
 use crate::{Options, PrepareError, plan_for, prepare};
 use binder::{Bound, bind};
 use join_graph::Link;
@@ -21,7 +23,9 @@ fn bound(rt: &impl Abort, alloc: Global, script: &[u8]) -> Result<Bound, Fail> {
     Ok(bind(alloc, &script)?)
 }
 
-fn options(order: Option<Listed<u32>>, force: bool) -> Options {
+fn options(order: Option<Listed<u32>>, force: bool) -> Options
+    ensures { result.order ≡ order }
+{
     Options {
         filter: FilterKind::Exact,
         workers: 4,
