@@ -1,0 +1,3 @@
+pub mod ListFacts
+pub mod SelectedFacts
+pub mod TableFacts

@@ -1,0 +1,49 @@
+-- Rows whose bit is set, and filters of them.
+use Rattle.std.proofs.Common.{◌≡◌, ◌∙◌, ap, sym, refl, arith, ℕ, zero, suc, ◌+◌, ◌<◌, ◌≤◌, Bool, true, false, List, [], ◌∷◌, length, get_or, map, zero-add}
+use Rattle.std.specs.Prelude.{◌==◌, ◌&&◌, cond, filter}
+use Rattle.std.specs.List.{All, range_with_len}
+use Rattle.std.proofs.lemmas.Bool.{eqb-true}
+use Rattle.std.proofs.lemmas.List.{length-map, get_or-map}
+use Rattle.std.proofs.lemmas.List.Elements.{All-filter, All-from_get_or}
+use Rattle.std.proofs.lemmas.List.FromFn.{get_or-range_with_len, length-range_with_len}
+use Rattle.column_table.specs.Bits.{set_rows}
+
+-- a list without elements
+pub empty-is : {X : Type 0} (xs : List X) → (length xs == 0) ≡ true → xs ≡ []
+empty-is [] e = refl
+empty-is (x ∷ xs) e = let none : suc (length xs) ≡ 0 = eqb-true (suc (length xs)) 0 e in absurd (omega arith)
+
+-- what passes one test and then another passes both
+filter-head : {X : Type 0} (p q : X → Bool) (x : X) (rest : List X) (b : Bool) → p x ≡ b → filter q (cond b (x ∷ rest) rest) ≡ cond (b && q x) (x ∷ filter q rest) (filter q rest)
+filter-head p q x rest true e = refl
+filter-head p q x rest false e = refl
+
+pub filter-twice : {X : Type 0} (p q : X → Bool) (xs : List X) → filter q (filter p xs) ≡ filter (λ x. p x && q x) xs
+filter-twice p q [] = refl
+filter-twice p q (x ∷ xs) = filter-head p q x (filter p xs) (p x) refl ∙ ap (λ rest. cond (p x && q x) (x ∷ rest) rest) (filter-twice p q xs)
+
+-- what passes a test that all pass
+pub filter-all : {X : Type 0} (xs : List X) → filter (λ x. true) xs ≡ xs
+filter-all [] = refl
+filter-all (x ∷ xs) = ap (λ rest. x ∷ rest) (filter-all xs)
+
+-- two tests that agree on the numbers of a range
+filter-range : (p q : ℕ → Bool) (a n : ℕ) → ((k : ℕ) → a ≤ k → k < a + n → p k ≡ q k) → filter p (range_with_len a n) ≡ filter q (range_with_len a n)
+filter-range p q a zero same = refl
+filter-range p q a (suc n) same =
+    let rest : filter p (range_with_len (a + 1) n) ≡ filter q (range_with_len (a + 1) n) = filter-range p q (a + 1) n (λ k from to. same k (omega arith) (omega arith)) in
+    let here : p a ≡ q a = same a (omega arith) (omega arith) in
+    rw (here, rest) refl
+
+-- the rows whose bit says that they pass a test
+pub set_rows-map : {X : Type 0} (test : X → Bool) (rows : List X) (d : X) → set_rows (map test rows) ≡ filter (λ k. test (get_or rows k d)) (range_with_len 0 (length rows))
+set_rows-map test rows d =
+    ap (λ n. filter (λ k. get_or (map test rows) k false) (range_with_len 0 n)) (length-map rows test)
+    ∙ filter-range (λ k. get_or (map test rows) k false) (λ k. test (get_or rows k d)) 0 (length rows) (λ k from to. get_or-map test rows k d false (omega arith))
+
+-- each is below the number of rows
+pub set_rows-below : (bits : List Bool) → All (λ row. row < length bits) (set_rows bits)
+set_rows-below bits =
+    All-filter (λ k. get_or bits k false) (λ row. row < length bits) (range_with_len 0 (length bits))
+    (All-from_get_or (λ row. row < length bits) (range_with_len 0 (length bits)) 0
+    (λ i lt. let within : i < length bits = omega (arith, length-range_with_len 0 (length bits)) in rw (get_or-range_with_len 0 (length bits) i 0 within) (omega arith)))
