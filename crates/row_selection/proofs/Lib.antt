@@ -1,3 +1,4 @@
+pub mod CellFacts
 pub mod ListFacts
 pub mod SelectedFacts
 pub mod TableFacts

@@ -1,5 +1,5 @@
 -- The rows that are listed are the selected ones, and linked columns are columns of the table.
-use Rattle.std.proofs.Common.{◌≡◌, ◌∙◌, ◌<◌, ap, sym, refl, subst, arith, ℕ, Bool, true, List, [], ◌∷◌, Some, get_or, length, map}
+use Rattle.std.proofs.Common.{◌≡◌, ◌∙◌, ◌<◌, ap, sym, subst, arith, ℕ, Bool, List, [], Some, get_or, length, map}
 use Rattle.std.specs.Prelude.{◌&&◌, Contains, filter, slice_get}
 use Rattle.std.specs.List.{All, range_with_len}
 use Rattle.std.proofs.lemmas.List.{get_or_default, get_or-map, length-map}
@@ -62,13 +62,13 @@ pub linked-columns : (b : BoundQuery) (r : ℕ) (t : Rows) (pairs : List (ℕ ×
     → slice_get b.known.local r ≡ Some pairs → t.kinds ≡ kinds_of b.query r → AreColumns t pairs
 linked-columns b r t pairs known lt local kinds =
     λ k d within.
-        let p : ℕ × ℕ = get_or pairs k d in
-        let same : get_or b.known.local r [] ≡ pairs = get_or_from_slice_get b.known.local r pairs [] local in
-        let widths : length (widths_of b.query) ≡ length b.query.table_of = length-map b.query.table_of (λ t. length (columns_in b.query.tables t)) in
-        let less : r < length b.known.local = omega (arith, known.local_length, widths) in
-        let there : Contains pairs (p.0, p.1) = (k, within, get_or_default pairs k p d within) in
-        let columns = ((known.local r less).members p.0 p.1).0 (subst (λ (ps : List (ℕ × ℕ)). Contains ps (p.0, p.1)) (sym same) there) in
-        let count : length t.kinds ≡ length (kinds_of b.query r) = ap length kinds in
-        let first : p.0 < length (kinds_of b.query r) = column-within b.query r p.0 lt columns.1 in
-        let second : p.1 < length (kinds_of b.query r) = column-within b.query r p.1 lt columns.2 in
-        (omega (arith, count, first), omega (arith, count, second))
+    let p : ℕ × ℕ = get_or pairs k d in
+    let same : get_or b.known.local r [] ≡ pairs = get_or_from_slice_get b.known.local r pairs [] local in
+    let widths : length (widths_of b.query) ≡ length b.query.table_of = length-map b.query.table_of (λ t. length (columns_in b.query.tables t)) in
+    let less : r < length b.known.local = omega (arith, known.local_length, widths) in
+    let there : Contains pairs (p.0, p.1) = (k, within, get_or_default pairs k p d within) in
+    let columns = ((known.local r less).members p.0 p.1).0 (subst (λ (ps : List (ℕ × ℕ)). Contains ps (p.0, p.1)) (sym same) there) in
+    let count : length t.kinds ≡ length (kinds_of b.query r) = ap length kinds in
+    let first : p.0 < length (kinds_of b.query r) = column-within b.query r p.0 lt columns.1 in
+    let second : p.1 < length (kinds_of b.query r) = column-within b.query r p.1 lt columns.2 in
+    (omega (arith, count, first), omega (arith, count, second))

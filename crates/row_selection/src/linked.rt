@@ -48,7 +48,5 @@ fn has_same(table: &Table, row: u32, first: u32, second: u32) -> bool
     requires second { second < length table.now.kinds }
     ensures { result ≡ has_same (slice_index_or table.now.rows row []) (first, second) }
 {
-    let left = table.cell(row, first);
-    let right = table.cell(row, second);
-    left.cmp(&right).is_eq()
+    table.cell(row, first) == table.cell(row, second)
 }

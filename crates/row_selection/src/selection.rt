@@ -32,7 +32,7 @@ pub fn selected(
     if pairs.is_empty() {
         return Ok(rows);
     }
-    // Its contract tells that the pairs are of columns of the relation.
+    // Its contract says that the pairs are of columns of the table.
     let _ = bound.var_sets();
     linked(alloc, table, &rows, pairs)
 }

@@ -15,7 +15,7 @@ returns-then-is_empty-clause-rows c =
     let none : c.local-pairs.result.now ≡ [] = empty-is c.local-pairs.result.now (sym c.is_empty.ensures ∙ c.if-is_empty.true) in
     c.in_ok-rows.ensures
     ∙ selected-listed c.args.bound.now c.args.tables.now c.args.relation c.table_at-table.result.now c.pred.result.now c.local-pairs.result.now c.in_ok-bits.bits
-      c.table_at-table.ensures.table c.pred.ensures.condition c.local-pairs.ensures c.in_ok-bits.ensures none
+    c.table_at-table.ensures.table c.pred.ensures.condition c.local-pairs.ensures c.in_ok-bits.ensures none
 
 pub returns-then-is_empty-clause-below : goal.returns-then-is_empty-clause-below
 returns-then-is_empty-clause-below c =
