@@ -1,6 +1,5 @@
 // Rows with the same value in linked columns.
 ghost use Rattle.std.specs.Prelude.{◌≡◌, ◌<◌, [], IfOk, filter, length, slice_index_or};
-ghost use Rattle.std.specs.List.{list_all};
 ghost use Rattle.row_selection.specs.Linked.{AreColumns, AreRows, has_same, is_linked};
 
 use column_table::Table;

@@ -1,4 +1,4 @@
-ghost use Rattle.std.specs.Prelude.{◌≡◌, IfOk, IsTrue};
+ghost use Rattle.std.specs.Prelude.{◌≡◌, IsTrue};
 ghost use Rattle.column_table.specs.Table.{types_of};
 ghost use Rattle.binder.specs.Answer.{AreTables};
 
