@@ -10,3 +10,4 @@ pub mod ShownFacts
 pub mod UsedFacts
 pub mod BindingFacts
 pub mod WidthFacts
+pub mod RelationTables

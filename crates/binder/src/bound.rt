@@ -4,7 +4,7 @@ ghost use Rattle.std.specs.List.{All};
 ghost use Rattle.std.specs.List.Sorted.{IsStrictlyIncreasing};
 ghost use Rattle.predicate.specs.Truth.{is_typed};
 ghost use Rattle.rpt_base.specs.declared.limits.TheConstants.{MAX_COLUMNS, MAX_RELATIONS};
-ghost use Rattle.binder.specs.Query.{Joins, Names, kinds_of, widths_of};
+ghost use Rattle.binder.specs.Query.{IsBoundQuery, Joins, Names, kinds_of, widths_of};
 ghost use Rattle.column_classes.specs.Variables.{AreQueryVariables};
 
 use crate::output::OutColumn;
@@ -44,13 +44,14 @@ impl Model for Bound {
 }
 
 impl Bound {
-    /// The number of relations.
+    /// The number of relations. The query is in order, and its variables are those of its written equalities.
     pub fn relations(&self) -> u32
         ensures count { result ≡ length self.now.query.table_of }
         ensures some { 1 ≤ length self.now.query.table_of }
         ensures limit { length self.now.query.table_of ≤ MAX_RELATIONS }
         ensures named { length self.now.query.aliases ≡ length self.now.query.table_of }
         ensures sets { length self.now.known.sets ≡ length self.now.query.table_of }
+        ensures bound { IsBoundQuery self.now }
     {
         self.table_of.as_slice().len() as u32
     }

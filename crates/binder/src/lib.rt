@@ -9,6 +9,7 @@ mod binding;
 mod bound;
 mod output;
 mod refusal;
+mod relation_tables;
 mod shown;
 mod translate;
 mod used;
@@ -20,6 +21,7 @@ pub use bound::Bound;
 pub use column_classes::{ColumnRef, Equality};
 pub use output::OutColumn;
 pub use refusal::BindError;
+pub use relation_tables::table_at;
 pub use script_rules::{BindKind, Fault, first_fault};
 
 #[cfg(test)]

@@ -1,4 +1,3 @@
 pub mod CellFacts
 pub mod ListFacts
 pub mod SelectedFacts
-pub mod TableFacts

@@ -1,20 +1,24 @@
 -- The rows that are listed are the selected ones, and linked columns are columns of the table.
-use Rattle.std.proofs.Common.{◌≡◌, ◌∙◌, ◌<◌, ap, sym, subst, arith, ℕ, Bool, List, [], Some, get_or, length, map}
+use Rattle.std.proofs.Common.{◌≡◌, ◌∙◌, ◌+◌, ◌<◌, ◌≤◌, ap, sym, subst, arith, ℕ, Bool, List, [], Some, get_or, length, map}
 use Rattle.std.specs.Prelude.{◌&&◌, Contains, filter, slice_get}
 use Rattle.std.specs.List.{All, range_with_len}
-use Rattle.std.proofs.lemmas.List.{get_or_default, get_or-map, length-map}
+use Rattle.std.specs.List.Sorted.{IsStrictlyIncreasing}
+use Rattle.std.proofs.lemmas.List.{get_or_default, length-map}
 use Rattle.std.proofs.lemmas.List.Elements.{All-filter}
+use Rattle.std.proofs.lemmas.List.FromFn.{get_or-range_with_len, length-range_with_len}
+use Rattle.std.proofs.lemmas.List.Kept.{IsStrictlyIncreasing-filter}
+use Rattle.std.proofs.lemmas.List.Sums.{count_by-le-length, length-filter}
 use Rattle.std.proofs.lemmas.Option.{get_or_from_slice_get}
 use Rattle.column_table.specs.Bits.{set_rows}
 use Rattle.column_table.specs.Table.{Rows}
-use Rattle.column_table.specs.declared.declared.ColumnDecl.{ColumnDecl}
 use Rattle.predicate.specs.declared.tree.Pred.{Pred}
 use Rattle.predicate.specs.declared.tree.Pred.TheVariants as pred
 use Rattle.predicate.specs.Truth.{is_true}
-use Rattle.column_classes.specs.Variables.{AreQueryVariables, IsColumn, column_of}
-use Rattle.binder.specs.Query.{BoundQuery, Query, columns_in, columns_of, kinds_of, widths_of}
+use Rattle.column_classes.specs.Variables.{AreQueryVariables}
+use Rattle.binder.specs.Query.{BoundQuery, columns_in, kinds_of, widths_of}
 use Rattle.binder.specs.Answer.{table_at}
-use Rattle.join_laws.specs.Selected.{selected_rows}
+use Rattle.join_laws.specs.Selected.{is_selected, selected_rows}
+use Rattle.binder.proofs.RelationTables.{column-within}
 use Rattle.row_selection.specs.Linked.{AreColumns, AreRows, is_linked}
 use Rattle.row_selection.proofs.ListFacts.{filter-all, filter-twice, set_rows-below, set_rows-map}
 
@@ -40,6 +44,31 @@ module _ (b : BoundQuery) (tables : List Rows) (r : ℕ) (t : Rows) (p : Pred) (
   pub selected-listed : pairs ≡ [] → set_rows bits ≡ selected_rows b tables r
   selected-listed none = sym (ap (λ (ps : List (ℕ × ℕ)). filter (is_linked t ps) (set_rows bits)) none ∙ filter-all (set_rows bits)) ∙ selected-linked
 
+filter-shorter : (p : ℕ → Bool) (xs : List ℕ) → length (filter p xs) ≤ length xs
+filter-shorter p xs = omega (arith, length-filter p xs, count_by-le-length p xs)
+
+range-rising : (n : ℕ) → IsStrictlyIncreasing (range_with_len 0 n)
+range-rising n = λ k lt.
+    let count = length-range_with_len 0 n in
+    let here : get_or (range_with_len 0 n) k 0 ≡ 0 + k = get_or-range_with_len 0 n k 0 (omega arith) in
+    let next : get_or (range_with_len 0 n) (k + 1) 0 ≡ 0 + (k + 1) = get_or-range_with_len 0 n (k + 1) 0 (omega arith) in
+    omega arith
+
+-- the selected rows rise
+pub selected-rising : (b : BoundQuery) (tables : List Rows) (r : ℕ) (rows : List ℕ) → rows ≡ selected_rows b tables r → IsStrictlyIncreasing rows
+selected-rising b tables r rows is =
+    let n = length (table_at b.query tables r).rows in
+    subst (λ (xs : List ℕ). IsStrictlyIncreasing xs) (sym is) (IsStrictlyIncreasing-filter (is_selected b tables r) (range_with_len 0 n) (range-rising n))
+
+-- there are no more than the table has
+pub selected-few : (b : BoundQuery) (tables : List Rows) (r limit : ℕ) (t : Rows) (rows : List ℕ) → t ≡ table_at b.query tables r → length t.rows ≤ limit → rows ≡ selected_rows b tables r → length rows ≤ limit
+selected-few b tables r limit t rows table few is =
+    let u = table_at b.query tables r in
+    let all = range_with_len 0 (length u.rows) in
+    let count : length t.rows ≡ length u.rows = ap (λ (v : Rows). length v.rows) table in
+    let kept : length rows ≤ length all = subst (λ (xs : List ℕ). length xs ≤ length all) (sym is) (filter-shorter (is_selected b tables r) all) in
+    omega (arith, length-range_with_len 0 (length u.rows))
+
 -- the rows of the bits are the table's
 pub listed-rows : (t : Rows) (p : Pred) (bits : List Bool) (rows : List ℕ) → bits ≡ map (is_true p) t.rows → rows ≡ set_rows bits → AreRows t rows
 listed-rows t p bits rows are is =
@@ -49,13 +78,6 @@ listed-rows t p bits rows are is =
 
 pub linked-rows : (t : Rows) (pairs : List (ℕ × ℕ)) (rows kept : List ℕ) → AreRows t rows → kept ≡ filter (is_linked t pairs) rows → AreRows t kept
 linked-rows t pairs rows kept are is = subst (λ (xs : List ℕ). AreRows t xs) (sym is) (All-filter (is_linked t pairs) (λ row. row < length t.rows) rows are)
-
--- a column of a query is one of its relation's table
-column-within : (q : Query) (r i : ℕ) → r < length q.table_of → IsColumn (widths_of q) (column_of r i) → i < length (kinds_of q r)
-column-within q r i lt is =
-    let width : get_or (widths_of q) r 0 ≡ length (columns_of q r) = get_or-map (λ t. length (columns_in q.tables t)) q.table_of r 0 0 lt in
-    let count : length (kinds_of q r) ≡ length (columns_of q r) = length-map (columns_of q r) (λ (d : ColumnDecl). d.kind) in
-    omega (arith, width, count, is.1)
 
 -- each pair of linked columns is one of columns of the table
 pub linked-columns : (b : BoundQuery) (r : ℕ) (t : Rows) (pairs : List (ℕ × ℕ)) → AreQueryVariables (widths_of b.query) b.query.equalities b.known → r < length b.query.table_of

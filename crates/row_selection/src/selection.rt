@@ -1,12 +1,13 @@
 // The rows of a relation that may take part in an answer.
-ghost use Rattle.std.specs.Prelude.{◌≡◌, ◌<◌, IfOk, length};
-ghost use Rattle.binder.specs.Query.{kinds_of};
+ghost use Rattle.std.specs.Prelude.{◌≡◌, ◌<◌, ◌≤◌, IfOk, length};
+ghost use Rattle.rpt_base.specs.declared.limits.TheConstants.{MAX_ROWS};
+ghost use Rattle.std.specs.List.Sorted.{IsStrictlyIncreasing};
 ghost use Rattle.binder.specs.Answer.{AreTables, table_at};
 ghost use Rattle.join_laws.specs.Selected.{selected_rows};
 ghost use Rattle.row_selection.specs.Linked.{AreRows};
 
 use crate::linked::linked;
-use binder::Bound;
+use binder::{Bound, table_at};
 use column_table::Table;
 use predicate::select;
 use rpt_base::Memory;
@@ -23,9 +24,13 @@ pub fn selected(
     requires tables { AreTables bound.now.query tables.now }
     requires relation { relation < length bound.now.query.table_of }
     ensures rows { IfOk result (λ rows. rows.items ≡ selected_rows bound.now tables.now relation) }
+    ensures rise { IfOk result (λ rows. IsStrictlyIncreasing rows.items) }
+    ensures few { IfOk result (λ rows. length rows.items ≤ MAX_ROWS) }
     ensures below { IfOk result (λ rows. AreRows (table_at bound.now.query tables.now relation) rows.items) }
 {
     let table = table_at(bound, tables, relation);
+    // Its clause says how many rows there may be.
+    let _rows = table.rows();
     let bits = select(alloc, bound.pred(relation), table)?;
     let rows = bits.listed(alloc)?;
     let pairs = bound.local(relation);
@@ -35,14 +40,4 @@ pub fn selected(
     // Its contract says that the pairs are of columns of the table.
     let _ = bound.var_sets();
     linked(alloc, table, &rows, pairs)
-}
-
-// The table of a relation.
-fn table_at<'t>(bound: &Bound, tables: &'t [Table], relation: u32) -> &'t Table
-    requires tables { AreTables bound.now.query tables.now }
-    requires relation { relation < length bound.now.query.table_of }
-    ensures table { result.now ≡ table_at bound.now.query tables.now relation }
-    ensures kinds { result.now.kinds ≡ kinds_of bound.now.query relation }
-{
-    &tables[bound.table_of(relation) as usize]
 }

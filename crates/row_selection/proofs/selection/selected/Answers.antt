@@ -1,5 +1,7 @@
-use Rattle.std.proofs.Common.{◌≡◌, ◌∙◌, ap, sym, subst, ℕ, List, []}
+use Rattle.std.proofs.Common.{◌≡◌, ◌∙◌, ◌≤◌, ap, sym, subst, ℕ, List, [], length}
+use Rattle.rpt_base.specs.declared.limits.TheConstants.{MAX_ROWS}
 use Rattle.std.specs.Prelude.{filter}
+use Rattle.std.specs.List.Sorted.{IsStrictlyIncreasing}
 use Rattle.std.proofs.lemmas.Result.{IfOk-weaker}
 use Rattle.column_table.specs.Bits.{set_rows}
 use Rattle.column_table.specs.Table.{Rows}
@@ -7,7 +9,7 @@ use Rattle.binder.specs.Answer.{table_at}
 use Rattle.join_laws.specs.Selected.{selected_rows}
 use Rattle.row_selection.specs.Linked.{AreRows, is_linked}
 use Rattle.row_selection.proofs.ListFacts.{empty-is}
-use Rattle.row_selection.proofs.SelectedFacts.{linked-columns, linked-rows, listed-rows, selected-linked, selected-listed}
+use Rattle.row_selection.proofs.SelectedFacts.{linked-columns, linked-rows, listed-rows, selected-few, selected-linked, selected-listed, selected-rising}
 use Rattle.row_selection.proofs.selection.selected.Goals as goal
 
 pub returns-then-is_empty-clause-rows : goal.returns-then-is_empty-clause-rows
@@ -47,3 +49,22 @@ returns-clause-below c =
     let rows : AreRows t c.deref.result.now = listed-rows t c.pred.result.now c.in_ok-bits.bits c.deref.result.now c.in_ok-bits.ensures (c.deref.ensures.value ∙ c.in_ok-rows.ensures) in
     IfOk-weaker c.linked.result (λ kept. kept.items ≡ filter (is_linked t pairs) c.deref.result.now) (λ kept. AreRows (table_at c.args.bound.now.query c.args.tables.now c.args.relation) kept.items)
     (λ kept is. subst (λ (u : Rows). AreRows u kept.items) c.table_at-table.ensures.table (linked-rows t pairs c.deref.result.now kept.items rows is)) c.linked.ensures
+
+pub returns-then-is_empty-clause-rise : goal.returns-then-is_empty-clause-rise
+returns-then-is_empty-clause-rise c =
+    selected-rising c.args.bound.now c.args.tables.now c.args.relation c.in_ok-rows.rows.items (returns-then-is_empty-clause-rows c)
+
+pub returns-clause-rise : goal.returns-clause-rise
+returns-clause-rise c =
+    IfOk-weaker c.linked.result (λ kept. kept.items ≡ selected_rows c.args.bound.now c.args.tables.now c.args.relation) (λ kept. IsStrictlyIncreasing kept.items)
+    (λ kept is. selected-rising c.args.bound.now c.args.tables.now c.args.relation kept.items is) (returns-clause-rows c)
+
+pub returns-then-is_empty-clause-few : goal.returns-then-is_empty-clause-few
+returns-then-is_empty-clause-few c =
+    selected-few c.args.bound.now c.args.tables.now c.args.relation _ c.table_at-table.result.now c.in_ok-rows.rows.items
+    c.table_at-table.ensures.table c.rows-rows.ensures.limit (returns-then-is_empty-clause-rows c)
+
+pub returns-clause-few : goal.returns-clause-few
+returns-clause-few c =
+    IfOk-weaker c.linked.result (λ kept. kept.items ≡ selected_rows c.args.bound.now c.args.tables.now c.args.relation) (λ kept. length kept.items ≤ MAX_ROWS)
+    (λ kept is. selected-few c.args.bound.now c.args.tables.now c.args.relation _ c.table_at-table.result.now kept.items c.table_at-table.ensures.table c.rows-rows.ensures.limit is) (returns-clause-rows c)

@@ -7,3 +7,6 @@ pub returns-clause-sets : goal.returns-clause-sets
 returns-clause-sets c =
     let bound : IsBoundQuery c.args.self.now = subst (λ (b : BoundQuery). IsBoundQuery b) c.self.view_is c.self.invariant in
     bound.known.sets_length ∙ widths-length c.args.self.now.query
+
+pub returns-clause-bound : goal.returns-clause-bound
+returns-clause-bound c = subst (λ (b : BoundQuery). IsBoundQuery b) c.self.view_is c.self.invariant

@@ -1,7 +1,7 @@
 use Rattle.std.proofs.Common.{◌∙◌, ap}
 use Rattle.column_table.specs.Table.{Rows}
-use Rattle.row_selection.proofs.TableFacts.{table_at-kinds, table_at-read}
-use Rattle.row_selection.proofs.selection.table_at.Goals as goal
+use Rattle.binder.proofs.RelationTables.{table_at-kinds, table_at-read}
+use Rattle.binder.proofs.relation_tables.table_at.Goals as goal
 
 pub returns-clause-kinds : goal.returns-clause-kinds
 returns-clause-kinds c =

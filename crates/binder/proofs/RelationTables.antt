@@ -1,12 +1,15 @@
--- The tables of a query's relations, and the columns of linked pairs.
+-- The tables of a query's relations.
 use Rattle.std.proofs.Common.{◌≡◌, ◌∙◌, ◌<◌, ap, sym, arith, ℕ, List, [], Some, get_or, length}
 use Rattle.std.specs.Prelude.{slice_get, slice_index}
 use Rattle.std.proofs.lemmas.List.{get_or_read, length-map}
 use Rattle.std.proofs.lemmas.Option.{get_or_from_slice_get}
 use Rattle.std.proofs.Math.ListN.{get_or-map}
+use Rattle.std.proofs.lemmas.List.{get_or-map as get_or-map_within}
 use Rattle.column_table.specs.Table.{Rows, types_of}
+use Rattle.column_table.specs.declared.declared.ColumnDecl.{ColumnDecl}
 use Rattle.column_table.specs.declared.declared.Decl.{Decl}
-use Rattle.binder.specs.Query.{Query, kinds_of}
+use Rattle.column_classes.specs.Variables.{IsColumn, column_of}
+use Rattle.binder.specs.Query.{Query, columns_in, columns_of, kinds_of, widths_of}
 use Rattle.binder.specs.Answer.{AreTables, table_at}
 
 -- a relation's table has the columns that the query declares
@@ -18,7 +21,7 @@ table_at-kinds q tables r are =
     ∙ get_or-map (λ (d : Decl). types_of d.columns) q.tables i (record { name = []; columns = [] })
 
 -- there are as many tables as are declared
-tables-length : (q : Query) (tables : List Rows) → AreTables q tables → length tables ≡ length q.tables
+pub tables-length : (q : Query) (tables : List Rows) → AreTables q tables → length tables ≡ length q.tables
 tables-length q tables are =
     sym (length-map tables (λ (t : Rows). t.kinds)) ∙ ap length are ∙ length-map q.tables (λ (d : Decl). types_of d.columns)
 
@@ -28,3 +31,10 @@ pub table_at-read : (q : Query) (tables : List Rows) (r i : ℕ) (t : Rows) → 
 table_at-read q tables r i t are of lt is =
     get_or_read tables i t (omega (arith, tables-length q tables are)) is (record { kinds = []; rows = [] })
     ∙ ap (λ j. get_or tables j (record { kinds = []; rows = [] })) (sym (get_or_from_slice_get q.table_of r i 0 of))
+
+-- a column of a query is one of its relation's table
+pub column-within : (q : Query) (r i : ℕ) → r < length q.table_of → IsColumn (widths_of q) (column_of r i) → i < length (kinds_of q r)
+column-within q r i lt is =
+    let width : get_or (widths_of q) r 0 ≡ length (columns_of q r) = get_or-map_within (λ t. length (columns_in q.tables t)) q.table_of r 0 0 lt in
+    let count : length (kinds_of q r) ≡ length (columns_of q r) = length-map (columns_of q r) (λ (d : ColumnDecl). d.kind) in
+    omega (arith, width, count, is.1)
