@@ -1,5 +1,5 @@
-pub mod LoopFacts
-pub mod RangeFacts
-pub mod TableFacts
+pub mod AnswerFacts
+pub mod SortFacts
 pub mod TextFacts
 pub mod TupleFacts
+pub mod TurnFacts

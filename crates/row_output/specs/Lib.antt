@@ -1,4 +1,5 @@
-pub mod Loops
 pub mod OutputText
 pub mod Tuples
+pub mod Turning
 pub mod Writing
+pub mod Heads

@@ -9,14 +9,15 @@ use Rattle.column_table.specs.Table.{Rows, types_of}
 use Rattle.column_table.specs.declared.declared.Decl.{Decl}
 use Rattle.csv_load.specs.FileTable.{file_table}
 use Rattle.script_rules.specs.declared.found.Fault.{Fault}
-use Rattle.binder.specs.Query.{Query}
+use Rattle.binder.specs.Query.{BoundQuery, Query}
 use Rattle.binder.specs.Binding.{query_of}
 use Rattle.script_rules.specs.Faults.{refusal_of as script_refusal}
-use Rattle.binder.specs.Answer.{answer_of, counts_of}
-use Rattle.row_output.specs.OutputText.{output_text}
+use Rattle.binder.specs.Answer.{counts_of}
+use Rattle.join_laws.specs.PrefixJoin.{prefix_joins}
+use Rattle.join_laws.specs.Selected.{instance_of, selected_rows}
 use Rattle.rpt_base.specs.declared.limits.TheConstants.{MAX_ROWS}
 use Rattle.rpt_cli.specs.declared.refusal.Refusal.{Refusal}
-use Rattle.rpt_cli.specs.declared.refusal.Refusal.TheVariants.{Usage, ReadFault, TooLarge, Lex, Syntax, TooDeep, Bind, Cyclic, OrderNames, UnsafeOrder, Header, Ragged, BadField, NotUtf8, TooManyRows, WriteFault, Memory}
+use Rattle.rpt_cli.specs.declared.refusal.Refusal.TheVariants.{Usage, ReadFault, TooLarge, Lex, Syntax, TooDeep, Bind, Cyclic, OrderNames, UnsafeOrder, Header, Ragged, BadField, NotUtf8, TooManyRows, RowsOverflow, WriteFault, Memory}
 use Rattle.rpt_cli.specs.declared.words.Command.{Command}
 use Rattle.rpt_cli.specs.Words.{command_of, table_file}
 use Rattle.rpt_cli.specs.Scripts.{IsScript}
@@ -26,7 +27,7 @@ use Rattle.rpt_cli.specs.Orders.{order_of}
 use Rattle.rpt_cli.specs.declared.words.Mode.{Mode}
 use Rattle.rpt_cli.specs.declared.words.Mode.TheVariants as mode
 use Rattle.rpt_cli.proofs.PreparedFacts.{Refused, ByCycle, ByNames, ByPrefix, why-refused}
-use Rattle.rpt_cli.specs.Command.{asks_within, bound_course, command_course, course, course_of, mode_course, query_or, script_course, table_or, tables_course, text_of}
+use Rattle.rpt_cli.specs.Command.{answer_course, asks_within, bound_course, command_course, course, course_of, mode_course, overflow_of, query_or, script_course, table_or, tables_course, text_unless}
 use Rattle.rpt_cli.specs.Delivery.{Delivers}
 use Rattle.rpt_cli.specs.Message.{status_of}
 use Rattle.rpt_cli.specs.Outcome.{Answers}
@@ -52,12 +53,14 @@ module _ (given : Option (List ℕ)) where
   either true x y p q = p
   either false x y p q = q
 
-  text-ends : (query : Query) (tables : List Rows) → IsOverContents given (text_of query tables)
-  text-ends query tables = by (nat_lt MAX_ROWS (sum (counts_of query tables)))
-    where
-      by : (b : Bool) → IsOverContents given (if b then Err TooManyRows else Ok (output_text query tables (answer_of query tables)))
-      by true = tt
-      by false = tt
+  text-ends : (overflow : Option ℕ) (text : List ℕ) → IsOverContents given (text_unless overflow text)
+  text-ends None text = tt
+  text-ends (Some prefix) text = tt
+
+  answer-ends : (bound : BoundQuery) (order : Option (List ℕ)) (tables : List Rows) → EndsOverContents given (answer_course bound order tables)
+  answer-ends bound order tables =
+      either (nat_lt MAX_ROWS (sum (counts_of bound.query tables))) (Ends (Err TooManyRows)) _ tt
+      (λ e h. absurd h, λ plan. text-ends (overflow_of (prefix_joins (instance_of bound tables) (selected_rows bound tables) plan.order)) _)
 
   table-ends : (decl : Decl) (table : Result (List (List Value)) LoadError) (next : Rows → Course) → ((t : Rows) → EndsOverContents given (next t))
       → EndsOverContents given (goes_on (table_or decl table) next)
@@ -69,14 +72,17 @@ module _ (given : Option (List ℕ)) where
   table-ends decl (Err load_error.TooManyRows) next p = tt
   table-ends decl (Err load_error.Memory) next p = tt
 
-  tables-ends : (folder : List ℕ) (query : Query) (room : ℕ) (tables : List Rows) (decls : List Decl) → EndsOverContents given (tables_course folder query room tables decls)
-  tables-ends folder query room tables [] = text-ends query tables
-  tables-ends folder query room tables (decl ∷ decls) = λ bytes.
+  tables-ends : (folder : List ℕ) (next : List Rows → Course) (room : ℕ) (tables : List Rows) (decls : List Decl) → ((all : List Rows) → EndsOverContents given (next all))
+      → EndsOverContents given (tables_course folder next room tables decls)
+  tables-ends folder next room tables [] p = p tables
+  tables-ends folder next room tables (decl ∷ decls) p = λ bytes.
       either (nat_lt room (length bytes)) (Ends (Err (TooLarge (table_file folder decl.name)))) _ tt
-      (table-ends decl (file_table MAX_ROWS decl.columns bytes) _ (λ t. tables-ends folder query (room - length bytes) (tables ++ t ∷ []) decls))
+      (table-ends decl (file_table MAX_ROWS decl.columns bytes) _ (λ t. tables-ends folder next (room - length bytes) (tables ++ t ∷ []) decls p))
 
   mode-ends : (limit : ℕ) (mode : Mode) (folder : List ℕ) (query : Query) (prepared : Prepared) → EndsOverContents given (mode_course limit mode folder query prepared)
-  mode-ends limit mode.Run folder query prepared = tables-ends folder query limit [] query.tables
+  mode-ends limit mode.Run folder query prepared =
+      let bound : BoundQuery = record { query = query; known = prepared.known } in
+      tables-ends folder (answer_course bound prepared.order) limit [] query.tables (answer-ends bound prepared.order)
   mode-ends limit mode.Check folder query prepared = (λ e h. absurd h, λ plan. tt)
 
   -- what is refused as no script is refused for what it is
@@ -97,6 +103,7 @@ module _ (given : Option (List ℕ)) where
   script-refusal bytes (BadField table row column) h = tt
   script-refusal bytes (NotUtf8 table row column) h = tt
   script-refusal bytes TooManyRows h = tt
+  script-refusal bytes (RowsOverflow prefix) h = tt
   script-refusal bytes Memory h = tt
 
   -- a course that ends so leads to no usage and no fault but of a file that it asks for, whose count rose
@@ -176,6 +183,7 @@ status-over given (Ragged table row) p = other-status given 7 (λ h. omega arith
 status-over given (BadField table row column) p = other-status given 7 (λ h. omega arith) (λ h. omega arith) (λ h. omega arith)
 status-over given (NotUtf8 table row column) p = other-status given 7 (λ h. omega arith) (λ h. omega arith) (λ h. omega arith)
 status-over given TooManyRows p = other-status given 10 (λ h. omega arith) (λ h. omega arith) (λ h. omega arith)
+status-over given (RowsOverflow prefix) p = other-status given 10 (λ h. omega arith) (λ h. omega arith) (λ h. omega arith)
 status-over given Memory p = other-status given 1 (λ h. omega arith) (λ h. omega arith) (λ h. omega arith)
 
 -- what a status tells of the words and the counts

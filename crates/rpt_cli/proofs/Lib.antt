@@ -9,3 +9,6 @@ pub mod PreparedFacts
 pub mod PlannedFacts
 pub mod Sinks
 pub mod TableFacts
+pub mod OverflowFacts
+pub mod AnsweredFacts
+pub mod RangeFacts

@@ -4,7 +4,7 @@ use Rattle.std.specs.Prelude.{Option, Result, Ok, Err, IfSome, IsOk, IsOkAnd, Ma
 use Rattle.std.specs.Io.KnownBytes.{Appends}
 use Rattle.rpt_outside.specs.Causes.{Rose, Tells}
 use Rattle.rpt_cli.specs.declared.refusal.Refusal.{Refusal}
-use Rattle.rpt_cli.specs.declared.refusal.Refusal.TheVariants.{Usage, ReadFault, TooLarge, Lex, Syntax, TooDeep, Bind, Cyclic, OrderNames, UnsafeOrder, Header, Ragged, BadField, NotUtf8, TooManyRows, WriteFault, Memory}
+use Rattle.rpt_cli.specs.declared.refusal.Refusal.TheVariants.{Usage, ReadFault, TooLarge, Lex, Syntax, TooDeep, Bind, Cyclic, OrderNames, UnsafeOrder, Header, Ragged, BadField, NotUtf8, TooManyRows, RowsOverflow, WriteFault, Memory}
 use Rattle.rpt_cli.specs.Course.{Answer, Course, Ends, Asks, Finds, Leads, Gives, IsOutcome, NoneRose}
 use Rattle.rpt_cli.specs.Matters.{Found}
 use Rattle.rpt_cli.specs.Message.{status_of}
@@ -73,6 +73,7 @@ status_of-positive (Ragged table row) p = omega arith
 status_of-positive (BadField table row column) p = omega arith
 status_of-positive (NotUtf8 table row column) p = omega arith
 status_of-positive TooManyRows p = omega arith
+status_of-positive (RowsOverflow prefix) p = omega arith
 status_of-positive WriteFault p = omega arith
 status_of-positive Memory p = omega arith
 

@@ -15,7 +15,7 @@ use Rattle.rpt_engine.specs.declared.errors.PrepareError.TheVariants as prepare_
 use Rattle.rpt_cli.specs.Steps.{why_unprepared}
 use Rattle.binder.specs.Query.{Query, widths_of}
 use Rattle.rpt_cli.specs.declared.refusal.Refusal.{Refusal}
-use Rattle.rpt_cli.specs.declared.refusal.Refusal.TheVariants.{Usage, ReadFault, TooLarge, Lex, Syntax, TooDeep, Bind, Cyclic, OrderNames, UnsafeOrder, Header, Ragged, BadField, NotUtf8, TooManyRows, WriteFault, Memory}
+use Rattle.rpt_cli.specs.declared.refusal.Refusal.TheVariants.{Usage, ReadFault, TooLarge, Lex, Syntax, TooDeep, Bind, Cyclic, OrderNames, UnsafeOrder, Header, Ragged, BadField, NotUtf8, TooManyRows, RowsOverflow, WriteFault, Memory}
 use Rattle.rpt_cli.specs.Course.{IsFoundAs}
 use Rattle.rpt_cli.specs.Matters.{AreKnown, IsPrepared, Prepared, Preparing}
 use Rattle.rpt_cli.specs.Orders.{order_of}
@@ -43,6 +43,7 @@ why-refused query order force (Ragged table row) h = absurd h
 why-refused query order force (BadField table row column) h = absurd h
 why-refused query order force (NotUtf8 table row column) h = absurd h
 why-refused query order force TooManyRows h = absurd h
+why-refused query order force (RowsOverflow prefix) h = absurd h
 why-refused query order force WriteFault h = absurd h
 why-refused query order force Memory h = absurd h
 

@@ -12,7 +12,7 @@ use Rattle.sql_text.specs.declared.errors.ParseError.{ParseError}
 use Rattle.sql_text.specs.declared.errors.ParseError.TheVariants as parse_error
 use Rattle.sql_text.specs.Sentence.{IsReading, IsSentence, IsSyntaxError, IsTooDeep}
 use Rattle.rpt_cli.specs.declared.refusal.Refusal.{Refusal}
-use Rattle.rpt_cli.specs.declared.refusal.Refusal.TheVariants.{Usage, ReadFault, TooLarge, Lex, Syntax, TooDeep, Bind, Cyclic, OrderNames, UnsafeOrder, Header, Ragged, BadField, NotUtf8, TooManyRows, WriteFault, Memory}
+use Rattle.rpt_cli.specs.declared.refusal.Refusal.TheVariants.{Usage, ReadFault, TooLarge, Lex, Syntax, TooDeep, Bind, Cyclic, OrderNames, UnsafeOrder, Header, Ragged, BadField, NotUtf8, TooManyRows, RowsOverflow, WriteFault, Memory}
 use Rattle.rpt_cli.specs.Scripts.{IsScript}
 
 -- a refusal of a reader as one of the program
@@ -56,6 +56,7 @@ read-only bytes tokens found same good only (Err (Ragged table row)) h = absurd 
 read-only bytes tokens found same good only (Err (BadField table row column)) h = absurd h
 read-only bytes tokens found same good only (Err (NotUtf8 table row column)) h = absurd h
 read-only bytes tokens found same good only (Err TooManyRows) h = absurd h
+read-only bytes tokens found same good only (Err (RowsOverflow prefix)) h = absurd h
 read-only bytes tokens found same good only (Err WriteFault) h = absurd h
 read-only bytes tokens found same good only (Err Memory) h = absurd h
 
@@ -78,6 +79,7 @@ bad-only bytes offset none same (Err (Ragged table row)) h = absurd h
 bad-only bytes offset none same (Err (BadField table row column)) h = absurd h
 bad-only bytes offset none same (Err (NotUtf8 table row column)) h = absurd h
 bad-only bytes offset none same (Err TooManyRows) h = absurd h
+bad-only bytes offset none same (Err (RowsOverflow prefix)) h = absurd h
 bad-only bytes offset none same (Err WriteFault) h = absurd h
 bad-only bytes offset none same (Err Memory) h = absurd h
 

@@ -9,7 +9,7 @@ use Rattle.column_table.specs.declared.declared.Decl.{Decl}
 use Rattle.rpt_outside.specs.Causes.{Rose, Tells}
 use Rattle.rpt_cli.specs.Words.{settings_behind, table_file}
 use Rattle.rpt_cli.specs.declared.settings.Settings.{Settings}
-use Rattle.rpt_cli.specs.Course.{Course, Gives, goes_on}
+use Rattle.rpt_cli.specs.Course.{Answer, Course, Gives, goes_on}
 use Rattle.binder.specs.Query.{BoundQuery}
 use Rattle.plan_report.specs.Report.{report_of}
 use Rattle.rpt_engine.specs.Planned.{IsPlan}
@@ -72,6 +72,10 @@ Misses told before now limit name refusal =
 abbrev pub Fetches : Option (List ℕ) → (List ℕ → ℕ) → (List ℕ → ℕ) → ℕ → List ℕ → Result (List ℕ) Refusal → Type 0
 Fetches told before now limit name (Ok bytes) = Tells told bytes × (length bytes ≤ limit)
 Fetches told before now limit name (Err refusal) = Misses told before now limit name refusal
+
+-- the course, which asks for no file, leads to this answer, or memory ran out
+abbrev pub GivesUnasked : Course → Answer → Type 0
+GivesUnasked course answer = (told : List ℕ → Option (List ℕ)) (before now : List ℕ → ℕ) → Gives told before now course answer
 
 -- what a definition says; or memory ran out
 abbrev pub Makes : {X : Type 0} → Result X Refusal → Result X Refusal → Type 0

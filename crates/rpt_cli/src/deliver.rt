@@ -50,6 +50,6 @@ fn status(refusal: &Refusal) -> u8
         | Refusal::NotUtf8 { .. } => 7,
         Refusal::Cyclic { .. } => 8,
         Refusal::UnsafeOrder { .. } => 9,
-        Refusal::TooLarge { .. } | Refusal::TooManyRows => 10,
+        Refusal::TooLarge { .. } | Refusal::TooManyRows | Refusal::RowsOverflow { .. } => 10,
     }
 }

@@ -5,6 +5,7 @@
 //! of the definitions in `specs/`, and every other status has its cause there.
 #![tactic(auto)]
 
+mod answers;
 mod check;
 mod deliver;
 mod fetch;

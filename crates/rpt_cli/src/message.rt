@@ -66,6 +66,10 @@ fn parts(refusal: &Refusal) -> [Part<'_>; 7]
             column,
         ),
         Refusal::TooManyRows => plain(b"rpt: too many rows"),
+        Refusal::RowsOverflow { prefix } => placed(
+            b"rpt: too many joined rows at prefix ",
+            *prefix,
+        ),
         Refusal::WriteFault => plain(b"rpt: cannot write"),
         Refusal::Memory => plain(b"rpt: out of memory"),
     }

@@ -37,6 +37,8 @@ pub enum Refusal {
     NotUtf8 { table: Str, row: u32, column: Str },
     /// A table has a row with the number 8,388,608, or the relations have more than 8,388,608 rows together.
     TooManyRows,
+    /// The join of so many first relations of the order, and of no fewer, has 2^63 tuples or more.
+    RowsOverflow { prefix: u32 },
     /// A put to the output failed.
     WriteFault,
     /// Want of memory.

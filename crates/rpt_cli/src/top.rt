@@ -21,8 +21,8 @@ use std::thread::Threads;
 /// The words `run SCRIPT DIR` put the answer of the script over the tables' files in the folder to `out`, and `check SCRIPT DIR` the
 /// report of how it is answered; the status is 0 then. Otherwise one line is put to `messages`, and the status says why: 1 want of
 /// memory, 2 no command or an order that isn't one of the relations, 3 a file can't be read, 4 the output can't be written, 5 no
-/// script, 6 the script doesn't bind, 7 a bad table, 8 a cyclic query, 9 an unsafe order, 10 a file is too large or there are too
-/// many rows. Nothing is put to `out` then, but on status 4 a prefix of the text.
+/// script, 6 the script doesn't bind, 7 a bad table, 8 a cyclic query, 9 an unsafe order, 10 a file is too large, or the tables
+/// or a join have too many rows. Nothing is put to `out` then, but on status 4 a prefix of the text.
 pub fn run_command<R: Threads + Sync, F: Files, S: Sink, M: Sink, G: Gate + Sync>(
     rt: &R,
     alloc: Global,
@@ -57,19 +57,23 @@ pub fn run_command<R: Threads + Sync, F: Files, S: Sink, M: Sink, G: Gate + Sync
         → S.faults out.new < min (S.faults out.old + 1) (2 ^ 64 - 1)
         → (result ≡ 0) ⊎ (result ≡ 1) }
 {
-    let _ = rt;
-    let _ = gate;
-    let found = decide(alloc, words, files);
+    let found = decide(rt, alloc, words, files, gate);
     deliver(found, out, messages)
 }
 
 // The text that the words ask for, or why there is none.
-fn decide<F: Files>(alloc: Global, words: &[String], files: &mut F) -> Result<Vec<u8>, Refusal>
+fn decide<R: Threads + Sync, F: Files, G: Gate + Sync>(
+    rt: &R,
+    alloc: Global,
+    words: &[String],
+    files: &mut F,
+    gate: &G,
+) -> Result<Vec<u8>, Refusal>
     ensures { Gives (F.contents files.old) (F.faults files.old) (F.faults files.new)
         (course (words_of words.now)) (bytes_of result) }
 {
     match read_words(alloc, words) {
-        Ok(command) => follow(alloc, &command, files),
+        Ok(command) => follow(rt, alloc, &command, files, gate),
         Err(WordsError::Usage) => Err(Refusal::Usage),
         Err(WordsError::Memory) => Err(Refusal::Memory),
     }

@@ -1,3 +1,4 @@
 pub mod AcceptedFacts
 pub mod SequenceFacts
 pub mod PlanFacts
+pub mod EachFacts

@@ -28,3 +28,24 @@ impl From<Memory> for PrepareError {
         PrepareError::Memory
     }
 }
+
+/// Why a query has no answer.
+#[derive(Clone, Copy, Debug, Drop, PartialEq, Eq, Error)]
+pub enum AnswerError {
+    /// This prefix of the order has 2^63 tuples or more, and no lesser one has. Prefixes are numbered from 1, the first relation.
+    #[error("too many joined rows at prefix {prefix}")]
+    RowsOverflow { prefix: u32 },
+    /// Want of memory.
+    #[error("out of memory")]
+    Memory,
+}
+
+impl From<Memory> for AnswerError {
+    ghost use Rattle.rpt_engine.specs.declared.errors.AnswerError.TheVariants as error;
+
+    ghost from_gives = { λ _ e. e ≡ error.Memory };
+
+    fn from(_memory: Memory) -> AnswerError {
+        AnswerError::Memory
+    }
+}

@@ -86,6 +86,59 @@ fn two_columns_of_one_relation_are_in_one_class(rt: HostRuntime) -> Result<(), F
     Ok(())
 }
 
+// Equal rows of the second table are found in their order, and a key is equal in both its values or not at all.
+#[test]
+fn tables_are_joined_by_texts_and_numbers(rt: HostRuntime) -> Result<(), Fail> {
+    let script =
+        "CREATE TABLE a (n INT, t TEXT); CREATE TABLE b (n INT, t TEXT, z TEXT); SELECT a.n, z FROM a, b WHERE ";
+    let tables = [
+        ("d/a.csv", "n,t\n1,x\n1,y\n2,x\n2,\n"),
+        (
+            "d/b.csv",
+            "n,t,z\n1,x,p\n1,y,q\n2,y,r\n1,x,s\n2,,u\n3,xx,v\n",
+        ),
+    ];
+    let cases = [
+        ("a.t = b.t", "n,z\n1,p\n1,s\n1,q\n1,r\n2,p\n2,s\n2,u\n"),
+        ("a.n = b.n AND a.t = b.t", "n,z\n1,p\n1,s\n1,q\n2,u\n"),
+        (
+            "b.t = a.t AND b.n = a.n AND z <> 's'",
+            "n,z\n1,p\n1,q\n2,u\n",
+        ),
+    ];
+    for (condition, text) in cases {
+        let script = format!(in rt.alloc(); "{script}{condition}")?;
+        let ran = run(&rt, rt.alloc(), script.as_str(), &tables, &[])?;
+        answers(&rt, &ran, text.as_bytes());
+    }
+    Ok(())
+}
+
+// A table of numbers from 0, so many, one in each row, and 1 beside the first.
+fn numbers(alloc: Global, count: u32) -> Result<String, AllocError> {
+    let mut table = String::from_str(alloc, "k,v\n0,1\n")?;
+    for number in 1..count {
+        table.push_str(format!(in alloc; "{number},0\n")?.as_str())?;
+    }
+    Ok(table)
+}
+
+// Loops over all lists of rows wouldn't end: each table has 20,000.
+#[test]
+fn a_star_of_large_tables_is_joined_in_time(rt: HostRuntime) -> Result<(), Fail> {
+    let script =
+        "CREATE TABLE f (k INT, v INT); CREATE TABLE g (k INT, v INT); CREATE TABLE h (k INT, v INT); SELECT f.k, h.v FROM g, f, h WHERE f.k = g.k AND f.k = h.k AND g.v = 1";
+    let table = numbers(rt.alloc(), 20_000)?;
+    let tables = [
+        ("d/f.csv", table.as_str()),
+        ("d/g.csv", table.as_str()),
+        ("d/h.csv", table.as_str()),
+    ];
+    let ran = run(&rt, rt.alloc(), script, &tables, &[])?;
+    answers(&rt, &ran, b"k,v\n0,1\n");
+    Ok(())
+}
+
 // A table that is used twice is read once: the calls on its file are the fourth to the sixth, and the seventh fails.
 #[test]
 fn a_table_is_read_once(rt: HostRuntime) -> Result<(), Fail> {

@@ -115,3 +115,41 @@ fn an_order_changes_no_byte_of_the_answer(rt: HostRuntime) -> Result<(), Fail> {
     }
     Ok(())
 }
+
+// A path of three relations, in which values stand more than once.
+const PATH: &str =
+    "CREATE TABLE a (x INT); CREATE TABLE b (x INT, y INT); CREATE TABLE c (y INT); SELECT a.x, c.y FROM a, b, c WHERE a.x = b.x AND b.y = c.y";
+
+const PATH_TABLES: [(&str, &str); 3] = [
+    ("d/a.csv", "x\n1\n2\n2\n3\n"),
+    ("d/b.csv", "x,y\n1,5\n2,6\n2,5\n4,6\n"),
+    ("d/c.csv", "y\n5\n6\n7\n5\n"),
+];
+
+// By the rows of a, then of b, then of c: 0 0 0, 0 0 3, 1 1 1, 1 2 0, 1 2 3, 2 1 1, 2 2 0 and 2 2 3.
+const PATH_TEXT: &[u8] = b"x,y\n1,5\n1,5\n2,6\n2,5\n2,5\n2,6\n2,5\n2,5\n";
+
+#[test]
+fn rows_stand_in_the_order_of_from(rt: HostRuntime) -> Result<(), Fail> {
+    let cases = [
+        ["run", "q.sql", "d"].as_slice(),
+        ["run", "q.sql", "d", "--order", "a,b,c"].as_slice(),
+        ["run", "q.sql", "d", "--order", "b,a,c"].as_slice(),
+        ["run", "q.sql", "d", "--order", "c,b,a"].as_slice(),
+        ["run", "q.sql", "d", "--order", "a,c,b", "--force"].as_slice(),
+    ];
+    for words in cases {
+        let ran = run_script(&rt, rt.alloc(), words, PATH, &PATH_TABLES, &[])?;
+        answers(&rt, &ran, PATH_TEXT);
+    }
+    Ok(())
+}
+
+// The call with the number 3 would be the first on a table's file.
+#[test]
+fn an_unsafe_order_is_refused_before_a_table_is_read(rt: HostRuntime) -> Result<(), Fail> {
+    let words = ["run", "q.sql", "d", "--order", "a,c,b"];
+    let ran = run_script(&rt, rt.alloc(), &words, PATH, &PATH_TABLES, &[3])?;
+    refuses(&rt, &ran, 9, "rpt: unsafe order at prefix 2\n");
+    Ok(())
+}

@@ -8,7 +8,7 @@ use Rattle.row_output.proofs.output.write_rows.Goals as goal
 pub rows-preserved : goal.rows-preserved
 rows-preserved c text h =
     let rows = c.args.answer.now.rows in
-    let at : get_or rows c.rows.row [] ≡ c.row.result.now = get_or_from_slice_get rows c.rows.row c.row.result.now [] c.row.ensures in
+    let at : get_or rows c.rows.row [] ≡ c.row.result.now = get_or_from_slice_get rows c.rows.row c.row.result.now [] c.row.ensures.row in
     let more = rows_text-more c.args.bound.now.query c.args.tables.now rows c.rows.row text (omega arith) in
     HasWritten-is _ _ _ (rw at at more) (c.in_ok-write_row.ensures _ (c.rows.invariant text h))
 

@@ -1,6 +1,6 @@
 use Rattle.std.proofs.Common.{◌∙◌, sym, arith}
 use Rattle.join_graph.specs.JoinList.{has}
-use Rattle.row_output.proofs.RangeFacts.{all_below-more, all_below-stop}
+use Rattle.rpt_cli.proofs.RangeFacts.{all_below-more, all_below-stop}
 use Rattle.rpt_cli.proofs.orders.have_all.Goals as goal
 
 pub returns-then-not-has : goal.returns-then-not-has
