@@ -1,6 +1,6 @@
 -- The tree of a sentence is well formed.
-use Rattle.std.proofs.Common.{◌≡◌, ℕ, ◌+◌, ◌≤◌, List, [], ◌∷◌, ◌++◌, length, refl, sym, ap, ◌∙◌, subst, arith, map, Bool, true}
-use Rattle.std.specs.Prelude.{None, nat_le, ◌&&◌}
+use Rattle.std.proofs.Common.{◌≡◌, ℕ, List, [], ◌∷◌, ◌++◌, refl, sym, ap, ◌∙◌, subst, arith, map, Bool, true}
+use Rattle.std.specs.Prelude.{◌&&◌}
 use Rattle.std.specs.List.{list_all}
 use Rattle.sql_lex.specs.declared.tokens.Token.{Token}
 use Rattle.sql_text.specs.declared.kinds.Kind.TheVariants as k

@@ -1,5 +1,6 @@
 -- From the reading of a part to that of the whole it stands in.
-use Rattle.std.proofs.Common.{◌≡◌, ℕ, ◌+◌, ◌≤◌, true, false, List, [], ◌∷◌, length, refl, sym, ap, subst, arith, Result, Ok, Err}
+use Rattle.std.proofs.Common.{◌≡◌, ℕ, ◌+◌, ◌≤◌, true, false, List, [], ◌∷◌, length, refl, sym, ap, subst, arith, Result, Ok, Err, ◌⊎◌, inl, inr}
+use Rattle.std.specs.Prelude.{MatchResult}
 use Rattle.std.proofs.lemmas.Bool.Decides.{nat_tests}
 use Rattle.sql_lex.specs.declared.tokens.Token.{Token}
 use Rattle.sql_text.specs.declared.kinds.Kind.{Kind}
@@ -142,6 +143,31 @@ pub hands_on : {p q : Part} {X Y R : Type 0} (view : Tree p → X) (other : Tree
     → (r : Result R ParseError) → Gives view value rest n ts end r → Gives other value' rest m us end r
 hands_on view other value value' rest end l same (Ok r) h = record { tree = l.wrap h.tree; reads = l.reads h.tree (rest r) h.reads; value = same h.tree r h.value }
 hands_on view other value value' rest end l same (Err e) h = fails l end e h
+
+-- a result that is known
+pub read_ok : {p : Part} {X R : Type 0} (view : Tree p → X) (value : R → X) (rest : R → List Token) {n : ℕ} {ts : List Token} (end : ℕ) {r : Result R ParseError} {x : R}
+    → r ≡ Ok x → Gives view value rest n ts end r → Parsed view n ts (value x) (rest x)
+read_ok view value rest {n = n} {ts = ts} end same h = subst (λ r. Gives view value rest n ts end r) same h
+
+pub read_err : {p : Part} {X R : Type 0} (view : Tree p → X) (value : R → X) (rest : R → List Token) (n : ℕ) (ts : List Token) (end : ℕ) {r : Result R ParseError} {e : ParseError}
+    → r ≡ Err e → Gives view value rest n ts end r → Fails p n ts end e
+read_err view value rest n ts end same h = subst (λ r. Gives view value rest n ts end r) same h
+
+-- unless it was memory that failed
+pub append_err : {p : Part} {X R : Type 0} (view : Tree p → X) (value : R → X) (rest : R → List Token) (n : ℕ) (ts : List Token) (end : ℕ) {r : Result R ParseError} {e : ParseError}
+    → (r ≡ Err e) ⊎ (e ≡ Memory) → Gives view value rest n ts end r → Fails p n ts end e
+append_err view value rest n ts end (inl same) h = read_err view value rest n ts end same h
+append_err {p} view value rest n ts end (inr memory) h = subst (λ e. Fails p n ts end e) (sym memory) tt
+
+-- what was found before, beside what is read next
+pub beside : {p q : Part} {T U Y R : Type 0} (view : Tree p → U) (other : Tree q → Y) (value : (T × U) × R → Y) (rest : R → List Token) {n m : ℕ} {ts us : List Token} (end : ℕ) {found : T}
+    (l : Leads p n ts q m us) → ((d : Tree p) (both : (T × U) × R) → both.0.0 ≡ found → view d ≡ both.0.1 → other (l.wrap d) ≡ value both)
+    → (next : Result (U × R) ParseError) (r : Result ((T × U) × R) ParseError) → Gives view (λ r. r.0) (λ r. rest r.1) n ts end next
+    → MatchResult r (λ both. (next ≡ Ok (both.0.1, both.1)) × (both.0.0 ≡ found)) (λ e. next ≡ Err e) → Gives other value (λ r. rest r.1) m us end r
+beside view other value rest end l same next (Ok both) g h =
+    let k = read_ok view (λ r. r.0) (λ r. rest r.1) end h.0 g in
+    record { tree = l.wrap k.tree; reads = l.reads k.tree (rest both.1) k.reads; value = same k.tree both h.1 k.value }
+beside view other value rest {n = n} {ts = ts} end l same next (Err e) g h = fails l end e (read_err view (λ r. r.0) (λ r. rest r.1) n ts end h g)
 
 -- ---- first tokens
 

@@ -1,14 +1,17 @@
-pub mod Sets
-pub mod Parts
-pub mod First
-pub mod Compose
-pub mod Choices
-pub mod Same
-pub mod Leads
-pub mod Loops
-pub mod KindFacts
-pub mod Placed
-pub mod Predicates
-pub mod Cuts
-pub mod Whole
-pub mod Formed
+mod Sets
+mod Parts
+mod First
+mod Compose
+mod Choices
+mod Same
+mod Leads
+mod Loops
+mod Words
+mod KindFacts
+mod Placed
+mod Predicates
+mod Members
+mod Cuts
+mod Whole
+mod Formed
+mod Alone

@@ -1,13 +1,17 @@
 -- A repetition that a loop reads.
-use Rattle.std.proofs.Common.{◌≡◌, ℕ, ◌<◌, true, false, List, [], ◌∷◌, ◌++◌, length, refl, sym, ◌∙◌, ap, subst, append_assoc}
+use Rattle.std.proofs.Common.{◌≡◌, ℕ, ◌<◌, true, false, List, [], ◌∷◌, ◌++◌, length, refl, sym, ◌∙◌, ap, subst, append_assoc, arith}
+use Rattle.std.proofs.lemmas.Bool.Decides.{nat_tests}
 use Rattle.std.proofs.lemmas.List.{append-nil}
 use Rattle.sql_lex.specs.declared.tokens.Token.{Token}
-use Rattle.sql_text.specs.Grammar.{Part, many, Tree, End, More}
-use Rattle.sql_text.specs.Reading.{apart, Heads, first, after, nullable, Reads, Parsed}
+use Rattle.sql_text.specs.declared.kinds.Kind.{Kind}
+use Rattle.sql_text.specs.declared.errors.ParseError.{ParseError}
+use Rattle.sql_text.specs.Kinds.{code}
+use Rattle.sql_text.specs.Grammar.{Part, word, ◌▸◌, many, Tree, Both, End, More}
+use Rattle.sql_text.specs.Reading.{apart, subset, Heads, first, after, nullable, Reads, Parsed, Fails, Starts}
 use Rattle.sql_text.proofs.Parts.{longer_some}
-use Rattle.sql_text.proofs.Compose.{NoBegin}
+use Rattle.sql_text.proofs.Compose.{NoBegin, reads_both}
 use Rattle.sql_text.proofs.Choices.{reads_end}
-use Rattle.sql_text.proofs.Leads.{Leads, itself, at_more}
+use Rattle.sql_text.proofs.Leads.{Leads, itself, behind, at_more, fails, fails_first, fails_item, begun, reads_kind, none_of, found as separator}
 
 -- These were there or were found before the rest, and however the rest is read, so is the whole.
 pub record Grows {p : Part} {X : Type 0} (view : Tree (many p) → List X) (start : List X) (n : ℕ) (ts : List Token) (found : List X) (rest : List Token) : Type 0 where
@@ -34,9 +38,56 @@ grows_end {p} {X} {view} {start} {n} {ts} {rest} {found} ends g h = record {
   value = g.value End ∙ ap (λ (xs : List X). found ++ xs) ends ∙ append-nil found;
 }
 
--- the first member, in a list of its own
-pub begun_with : {X : Type 0} {x y : X} {none one : List X} → x ≡ y → none ≡ [] → one ≡ none ++ y ∷ [] → (more : List X) → x ∷ more ≡ one ++ more
-begun_with {X} {x} {y} {none} {one} same empty e more = ap (λ (z : X). z ∷ more) same ∙ sym (ap (λ (zs : List X). zs ++ more) (e ∙ ap (λ (zs : List X). zs ++ y ∷ []) empty))
+-- ---- members with a separator between them
+
+subset_itself : (kind : Kind) → subset (code kind ∷ []) (code kind ∷ []) ≡ true
+subset_itself kind = grind (arith, nat_tests)
+
+-- These were found before the rest, and however the separators and members there are read, so is the whole.
+pub record Goes {p : Part} {kind : Kind} {X : Type 0} (view : Tree (p ▸ many (word kind ▸ p)) → List X) (more : Tree (many (word kind ▸ p)) → List X) (n : ℕ) (ts : List Token) (found : List X) (rest : List Token) : Type 0 where
+  pub leads : Leads (many (word kind ▸ p)) n rest (p ▸ many (word kind ▸ p)) n ts
+  pub value : (m : Tree (many (word kind ▸ p))) → view (leads.wrap m) ≡ found ++ more m
+
+-- These were found before the rest, where a member must be.
+pub record Awaits {p : Part} {kind : Kind} {X : Type 0} (view : Tree (p ▸ many (word kind ▸ p)) → List X) (one : Tree p → List X) (more : Tree (many (word kind ▸ p)) → List X) (n : ℕ) (ts : List Token) (found : List X) (rest : List Token) : Type 0 where
+  pub read : (d : Tree p) (us : List Token) → Reads n rest d us → Goes view more n ts (found ++ one d) us
+  pub fails : (end : ℕ) (e : ParseError) → Fails p n rest end e → Fails (p ▸ many (word kind ▸ p)) n ts end e
+
+pub awaits_first : {p : Part} {kind : Kind} {X : Type 0} (view : Tree (p ▸ many (word kind ▸ p)) → List X) (one : Tree p → List X) (more : Tree (many (word kind ▸ p)) → List X) (n : ℕ) (ts : List Token)
+    → apart (after p) (code kind ∷ []) ≡ true → ((d : Tree p) (m : Tree (many (word kind ▸ p))) → view (Both d m) ≡ one d ++ more m) → Awaits view one more n ts [] ts
+awaits_first {p} {kind} view one more n ts ok parts = record {
+  read = λ d us r. record { leads = behind (itself (p ▸ many (word kind ▸ p))) ok r; value = parts d };
+  fails = λ end e h. fails_first (itself (p ▸ many (word kind ▸ p))) ok end e h;
+}
+
+-- behind a separator
+pub awaits_next : {p : Part} {kind : Kind} {X : Type 0} {view : Tree (p ▸ many (word kind ▸ p)) → List X} (one : Tree p → List X) {more : Tree (many (word kind ▸ p)) → List X} {n : ℕ} {ts rest us : List Token} {found : List X}
+    → apart (after (word kind ▸ p)) (code kind ∷ []) ≡ true → ((s : Tree (word kind)) (d : Tree p) (m : Tree (many (word kind ▸ p))) → more (More (Both s d) m) ≡ one d ++ more m)
+    → Goes view more n ts found rest → Starts kind rest us → Awaits view one more n ts found us
+awaits_next {p} {kind} {X} {view} one {more} {n} {ts} {rest} {us} {found} ok parts g s = record {
+  read = λ d vs r. record {
+    leads = at_more g.leads ok (begun s) (reads_both {p = word kind} {q = p} refl (reads_kind s) r);
+    value = λ m. g.value (More (Both (separator s) d) m) ∙ ap (λ (ys : List X). found ++ ys) (parts (separator s) d m) ∙ sym (append_assoc found (one d) (more m));
+  };
+  fails = λ end e h. fails_item g.leads ok (begun s) end e (fails (behind (itself (word kind ▸ p)) refl (reads_kind s)) end e h);
+}
+
+-- what was found, by another name
+pub goes_is : {p : Part} {kind : Kind} {X : Type 0} {view : Tree (p ▸ many (word kind ▸ p)) → List X} {more : Tree (many (word kind ▸ p)) → List X} {n : ℕ} {ts rest : List Token} {xs ys : List X}
+    → xs ≡ ys → Goes view more n ts xs rest → Goes view more n ts ys rest
+goes_is {view = view} {more = more} {n = n} {ts = ts} {rest = rest} same g = subst (λ zs. Goes view more n ts zs rest) same g
+
+pub goes_append : {p : Part} {kind : Kind} {X : Type 0} {view : Tree (p ▸ many (word kind ▸ p)) → List X} {more : Tree (many (word kind ▸ p)) → List X} {n : ℕ} {ts rest : List Token} (found : List X) {x y : X} {all : List X}
+    → x ≡ y → all ≡ found ++ y ∷ [] → Goes view more n ts (found ++ x ∷ []) rest → Goes view more n ts all rest
+goes_append {X = X} found same is g = goes_is (ap (λ (x : X). found ++ x ∷ []) same ∙ sym is) g
+
+pub goes_end : {p : Part} {kind : Kind} {X : Type 0} {view : Tree (p ▸ many (word kind ▸ p)) → List X} {more : Tree (many (word kind ▸ p)) → List X} {n : ℕ} {ts rest : List Token} {found : List X}
+    → more End ≡ [] → Goes view more n ts found rest → (Heads (code kind ∷ []) rest → ⊥) → Parsed view n ts found rest
+goes_end {p} {kind} {X} {view} {more} {n} {ts} {rest} {found} ends g h = record {
+  tree = g.leads.wrap End;
+  reads = g.leads.reads End rest (reads_end (none_of (word kind ▸ p) (code kind ∷ []) refl (subset_itself kind) h));
+  value = g.value End ∙ ap (λ (xs : List X). found ++ xs) ends ∙ append-nil found;
+}
 
 -- one more member, behind those that were there
 pub pushed : {X : Type 0} {x y : X} (start : List X) {one : List X} → x ≡ y → one ≡ start ++ y ∷ [] → (more : List X) → start ++ x ∷ more ≡ one ++ more

@@ -1,44 +1,27 @@
 // Conditions. A parenthesis and a NOT open a level each; the conditions that OR and AND join are read by loops.
-ghost use Rattle.std.specs.Prelude.{◌≡◌, ◌++◌, ℕ, IfOk};
-ghost use Rattle.sql_text.specs.Meaning.{cond_of, conj_of, neg_of, prim_of, conjs_of, negs_of, literals_of, literal_list_of, range_of, list_of, predicate_of, test_of, joined};
+ghost use Rattle.std.specs.Prelude.{◌≡◌, ◌∷◌, ℕ, List};
+ghost use Rattle.sql_text.specs.Meaning.{cond_of, conj_of, neg_of, prim_of, literal_list_of, range_of, list_of, predicate_of, test_of, operand_of, text_of, joined, compare, between, in_list, like};
 ghost use Rattle.sql_text.specs.Reading.{Gives};
 
 use crate::errors::ParseError;
 use crate::kinds::Kind;
 use crate::operands::operand;
-use crate::reading::{after, comparison, expect, first_is, literal, passes, text};
-use crate::tree::{Cond, Expr};
+use crate::reading::{
+    after, appended, comparison, expect, first_is, followed, literal, paired, passes, text,
+};
+use crate::tree::{Cond, Expr, Op};
 use rpt_base::{Listed, Value};
 use sql_lex::Token;
 use sqlite_items::{Boxed, Items as Members};
-use std::alloc::{AllocError, Global};
+use std::alloc::Global;
 
 // What follows BETWEEN: `operand AND operand`.
 fn range(alloc: Global, tokens: &[Token], end: u32) -> Result<((Expr, Expr), &[Token]), ParseError>
     ensures { (n : ℕ) → Gives range_of (λ found. found.0) (λ found. found.1.now) n tokens.now end result }
 {
     let (low, rest) = operand(alloc, tokens, end)?;
-    let rest = expect(rest, end, Kind::And)?;
-    let (high, rest) = operand(alloc, rest, end)?;
-    Ok(((low, high), rest))
-}
-
-// The literals behind the first.
-fn more_literals(
-    mut found: Vec<Value>,
-    alloc: Global,
-    tokens: &[Token],
-    end: u32,
-) -> Result<(Vec<Value>, &[Token]), ParseError>
-    ensures { (n : ℕ) → Gives (λ more. found.items ++ literals_of more) (λ all. all.0.items) (λ all. all.1.now) n tokens.now end result }
-{
-    let mut rest = tokens;
-    while let Some(behind) = after(rest, Kind::Comma) {
-        let (next, behind) = literal(alloc, behind, end)?;
-        found.push(next)?;
-        rest = behind;
-    }
-    Ok((found, rest))
+    let (low, rest) = followed(low, rest, end, Kind::And)?;
+    paired(low, operand(alloc, rest, end))
 }
 
 fn literals(
@@ -48,11 +31,16 @@ fn literals(
 ) -> Result<(Listed<Value>, &[Token]), ParseError>
     ensures { (n : ℕ) → Gives literal_list_of (λ found. found.0) (λ found. found.1.now) n tokens.now end result }
 {
-    let (first, rest) = literal(alloc, tokens, end)?;
     let mut found = Vec::new(alloc);
-    found.push(first)?;
-    let (all, rest) = more_literals(found, alloc, rest, end)?;
-    Ok((Listed::from_vec(all), rest))
+    let mut rest = tokens;
+    loop {
+        let (all, behind) = appended(found, literal(alloc, rest, end))?;
+        found = all;
+        match after(behind, Kind::Comma) {
+            Some(next) => rest = next,
+            None => return Ok((Listed::from_vec(found), behind)),
+        }
+    }
 }
 
 // What follows IN: literals in parentheses.
@@ -61,8 +49,96 @@ fn list(alloc: Global, tokens: &[Token], end: u32) -> Result<(Listed<Value>, &[T
 {
     let rest = expect(tokens, end, Kind::LeftParen)?;
     let (values, rest) = literals(alloc, rest, end)?;
-    let rest = expect(rest, end, Kind::RightParen)?;
-    Ok((values, rest))
+    followed(values, rest, end, Kind::RightParen)
+}
+
+// What follows a comparison, behind its left side.
+fn compared(
+    left: Expr,
+    op: Op,
+    alloc: Global,
+    tokens: &[Token],
+    end: u32,
+) -> Result<(Cond, &[Token]), ParseError>
+    ensures { (n : ℕ) → Gives (λ right. compare left op (operand_of right)) (λ found. found.0) (λ found. found.1.now) n tokens.now end result }
+{
+    let ((left, right), rest) = paired(left, operand(alloc, tokens, end))?;
+    Ok((
+        Cond::Compare {
+            at: left.at(),
+            op,
+            left,
+            right,
+        },
+        rest,
+    ))
+}
+
+// What follows BETWEEN, as a condition on the operand in front.
+fn between(
+    operand: Expr,
+    negated: bool,
+    alloc: Global,
+    tokens: &[Token],
+    end: u32,
+) -> Result<(Cond, &[Token]), ParseError>
+    ensures { (n : ℕ) → Gives (λ bounds. between operand negated (range_of bounds).0 (range_of bounds).1) (λ found. found.0) (λ found. found.1.now) n tokens.now end result }
+{
+    let ((operand, (low, high)), rest) = paired(operand, range(alloc, tokens, end))?;
+    Ok((
+        Cond::Between {
+            at: operand.at(),
+            negated,
+            operand,
+            low,
+            high,
+        },
+        rest,
+    ))
+}
+
+// What follows IN, as a condition on the operand in front.
+fn in_list(
+    operand: Expr,
+    negated: bool,
+    alloc: Global,
+    tokens: &[Token],
+    end: u32,
+) -> Result<(Cond, &[Token]), ParseError>
+    ensures { (n : ℕ) → Gives (λ values. in_list operand negated (list_of values)) (λ found. found.0) (λ found. found.1.now) n tokens.now end result }
+{
+    let ((operand, values), rest) = paired(operand, list(alloc, tokens, end))?;
+    Ok((
+        Cond::InList {
+            at: operand.at(),
+            negated,
+            operand,
+            values,
+        },
+        rest,
+    ))
+}
+
+// What follows LIKE, as a condition on the operand in front.
+fn like(
+    operand: Expr,
+    negated: bool,
+    alloc: Global,
+    tokens: &[Token],
+    end: u32,
+) -> Result<(Cond, &[Token]), ParseError>
+    ensures { (n : ℕ) → Gives (λ pattern. like operand negated (text_of pattern)) (λ found. found.0) (λ found. found.1.now) n tokens.now end result }
+{
+    let ((operand, pattern), rest) = paired(operand, text(alloc, tokens, end))?;
+    Ok((
+        Cond::Like {
+            at: operand.at(),
+            negated,
+            operand,
+            pattern,
+        },
+        rest,
+    ))
 }
 
 // What follows an operand that isn't compared.
@@ -74,44 +150,15 @@ fn predicate(
 ) -> Result<(Cond, &[Token]), ParseError>
     ensures { (n : ℕ) → Gives (predicate_of operand) (λ found. found.0) (λ found. found.1.now) n tokens.now end result }
 {
-    let at = operand.at();
     let (negated, rest) = passes(tokens, Kind::Not);
     if let Some(rest) = after(rest, Kind::Between) {
-        let ((low, high), rest) = range(alloc, rest, end)?;
-        return Ok((
-            Cond::Between {
-                at,
-                negated,
-                operand,
-                low,
-                high,
-            },
-            rest,
-        ));
+        return between(operand, negated, alloc, rest, end);
     }
     if let Some(rest) = after(rest, Kind::In) {
-        let (values, rest) = list(alloc, rest, end)?;
-        return Ok((
-            Cond::InList {
-                at,
-                negated,
-                operand,
-                values,
-            },
-            rest,
-        ));
+        return in_list(operand, negated, alloc, rest, end);
     }
-    let rest = expect(rest, end, Kind::Like)?;
-    let (pattern, rest) = text(alloc, rest, end)?;
-    Ok((
-        Cond::Like {
-            at,
-            negated,
-            operand,
-            pattern,
-        },
-        rest,
-    ))
+    let (operand, rest) = followed(operand, rest, end, Kind::Like)?;
+    like(operand, negated, alloc, rest, end)
 }
 
 // A condition that joins and negates no others.
@@ -120,44 +167,35 @@ fn test(alloc: Global, tokens: &[Token], end: u32) -> Result<(Cond, &[Token]), P
 {
     let (left, rest) = operand(alloc, tokens, end)?;
     match comparison(rest) {
-        Some((op, rest)) => {
-            let (right, rest) = operand(alloc, rest, end)?;
-            Ok((
-                Cond::Compare {
-                    at: left.at(),
-                    op,
-                    left,
-                    right,
-                },
-                rest,
-            ))
-        }
+        Some((op, rest)) => compared(left, op, alloc, rest, end),
         None => predicate(left, alloc, rest, end),
     }
 }
 
-fn all_of(alloc: Global, first: Cond, more: Members<Cond>) -> Result<Cond, AllocError>
-    ensures { IfOk result (λ condition. condition ≡ joined Cond.And first more) }
+// One alone is itself.
+fn all_of(mut found: Vec<Cond>) -> Cond
+    ensures { (first : Cond) (more : List Cond) → found.items ≡ first ∷ more → result ≡ joined Cond.And first more }
 {
-    if more.is_empty() {
-        return Ok(first);
+    if found.len() > 1 {
+        return Cond::And(Members::from_vec(found));
     }
-    let mut all = Members::new(alloc);
-    all.push(first)?;
-    all.append(more)?;
-    Ok(Cond::And(all))
+    match found.pop() {
+        Some(only) => only,
+        None => Cond::And(Members::from_vec(found)),
+    }
 }
 
-fn any_of(alloc: Global, first: Cond, more: Members<Cond>) -> Result<Cond, AllocError>
-    ensures { IfOk result (λ condition. condition ≡ joined Cond.Or first more) }
+// One alone is itself.
+fn any_of(mut found: Vec<Cond>) -> Cond
+    ensures { (first : Cond) (more : List Cond) → found.items ≡ first ∷ more → result ≡ joined Cond.Or first more }
 {
-    if more.is_empty() {
-        return Ok(first);
+    if found.len() > 1 {
+        return Cond::Or(Members::from_vec(found));
     }
-    let mut all = Members::new(alloc);
-    all.push(first)?;
-    all.append(more)?;
-    Ok(Cond::Or(all))
+    match found.pop() {
+        Some(only) => only,
+        None => Cond::Or(Members::from_vec(found)),
+    }
 }
 
 /// A condition, in which at most this many levels may be opened.
@@ -170,29 +208,16 @@ pub fn cond(
 ) -> Result<(Cond, &[Token]), ParseError>
     ensures { Gives cond_of (λ found. found.0) (λ found. found.1.now) levels tokens.now end result }
 {
-    let (first, rest) = conj(alloc, tokens, end, levels)?;
-    let (more, rest) = conjs(alloc, rest, end, levels)?;
-    Ok((any_of(alloc, first, more)?, rest))
-}
-
-// The conjunctions behind the first.
-#[cycle(cond)]
-fn conjs(
-    alloc: Global,
-    tokens: &[Token],
-    end: u32,
-    levels: u32,
-) -> Result<(Members<Cond>, &[Token]), ParseError>
-    ensures { Gives conjs_of (λ found. found.0) (λ found. found.1.now) levels tokens.now end result }
-{
-    let mut found = Members::new(alloc);
+    let mut found = Vec::new(alloc);
     let mut rest = tokens;
-    while let Some(behind) = after(rest, Kind::Or) {
-        let (next, behind) = conj(alloc, behind, end, levels)?;
-        found.push(next)?;
-        rest = behind;
+    loop {
+        let (all, behind) = appended(found, conj(alloc, rest, end, levels))?;
+        found = all;
+        match after(behind, Kind::Or) {
+            Some(next) => rest = next,
+            None => return Ok((any_of(found), behind)),
+        }
     }
-    Ok((found, rest))
 }
 
 #[cycle(cond)]
@@ -204,29 +229,16 @@ fn conj(
 ) -> Result<(Cond, &[Token]), ParseError>
     ensures { Gives conj_of (λ found. found.0) (λ found. found.1.now) levels tokens.now end result }
 {
-    let (first, rest) = neg(alloc, tokens, end, levels)?;
-    let (more, rest) = negs(alloc, rest, end, levels)?;
-    Ok((all_of(alloc, first, more)?, rest))
-}
-
-// The members of a conjunction behind the first.
-#[cycle(cond)]
-fn negs(
-    alloc: Global,
-    tokens: &[Token],
-    end: u32,
-    levels: u32,
-) -> Result<(Members<Cond>, &[Token]), ParseError>
-    ensures { Gives negs_of (λ found. found.0) (λ found. found.1.now) levels tokens.now end result }
-{
-    let mut found = Members::new(alloc);
+    let mut found = Vec::new(alloc);
     let mut rest = tokens;
-    while let Some(behind) = after(rest, Kind::And) {
-        let (next, behind) = neg(alloc, behind, end, levels)?;
-        found.push(next)?;
-        rest = behind;
+    loop {
+        let (all, behind) = appended(found, neg(alloc, rest, end, levels))?;
+        found = all;
+        match after(behind, Kind::And) {
+            Some(next) => rest = next,
+            None => return Ok((all_of(found), behind)),
+        }
     }
-    Ok((found, rest))
 }
 
 #[cycle(cond)]
@@ -272,8 +284,7 @@ fn prim(
                 return Err(ParseError::TooDeep { at: token.start });
             }
             let (inner, rest) = cond(alloc, rest, end, levels - 1)?;
-            let rest = expect(rest, end, Kind::RightParen)?;
-            Ok((inner, rest))
+            followed(inner, rest, end, Kind::RightParen)
         }
         None => test(alloc, tokens, end),
     }

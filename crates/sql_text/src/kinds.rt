@@ -1,14 +1,15 @@
 // What the grammar knows of a token.
-ghost use Rattle.std.specs.Prelude.{◌≡◌};
-ghost use Rattle.std.specs.List.{list_all, list_any};
+ghost use Rattle.std.specs.Prelude.{◌≡◌, map};
+ghost use Rattle.std.specs.List.{list_all};
 ghost use Rattle.std.specs.Str.{bytes_eq};
 ghost use Rattle.sql_text.specs.Kinds.{kind_of, kind_of_word as kind_said, kind_of_number as number_said, kind_of_mark as mark_said, is_name_in_lower_case as fits_said, is_not_capital};
+ghost use Rattle.sql_text.specs.Words.{kind_among};
 
 use rpt_base::Name;
 use sql_lex::{Mark, Token, TokenKind};
 
 /// What the grammar knows of a token: a keyword stands for a word of that spelling.
-#[derive(Clone, Copy, Debug, PartialEq, Eq)]
+#[derive(Clone, Copy, PartialEq, Eq)]
 pub enum Kind {
     And,
     As,
@@ -101,88 +102,72 @@ fn same(a: &[u8], b: &[u8]) -> bool
     a == b
 }
 
+// The words that are no names, or more than names.
+const WORDS: [(&[u8], Kind); 44] = [
+    (b"and", Kind::And),
+    (b"as", Kind::As),
+    (b"between", Kind::Between),
+    (b"create", Kind::Create),
+    (b"from", Kind::From),
+    (b"in", Kind::In),
+    (b"inner", Kind::Inner),
+    (b"join", Kind::Join),
+    (b"like", Kind::Like),
+    (b"not", Kind::Not),
+    (b"on", Kind::On),
+    (b"or", Kind::Or),
+    (b"select", Kind::Select),
+    (b"table", Kind::Table),
+    (b"where", Kind::Where),
+    (b"int", Kind::Int),
+    (b"integer", Kind::Integer),
+    (b"bigint", Kind::Bigint),
+    (b"text", Kind::TextType),
+    (b"asc", Kind::Reserved),
+    (b"by", Kind::Reserved),
+    (b"cross", Kind::Reserved),
+    (b"desc", Kind::Reserved),
+    (b"distinct", Kind::Reserved),
+    (b"except", Kind::Reserved),
+    (b"exists", Kind::Reserved),
+    (b"fetch", Kind::Reserved),
+    (b"full", Kind::Reserved),
+    (b"group", Kind::Reserved),
+    (b"having", Kind::Reserved),
+    (b"intersect", Kind::Reserved),
+    (b"is", Kind::Reserved),
+    (b"left", Kind::Reserved),
+    (b"limit", Kind::Reserved),
+    (b"natural", Kind::Reserved),
+    (b"null", Kind::Reserved),
+    (b"offset", Kind::Reserved),
+    (b"order", Kind::Reserved),
+    (b"outer", Kind::Reserved),
+    (b"right", Kind::Reserved),
+    (b"union", Kind::Reserved),
+    (b"using", Kind::Reserved),
+    (b"window", Kind::Reserved),
+    (b"with", Kind::Reserved),
+];
+
+// The kind beside the first of these words that the word is, or else that of a name.
+fn kind_among(word: &[u8], mut words: &[(&[u8], Kind)]) -> Kind
+    ensures { result ≡ kind_among (map (λ other. (other.0.now, other.1)) words.entry.now) Kind.Name word.now }
+{
+    while let [other, rest @ ..] = words {
+        if same(word, other.0) {
+            return other.1;
+        }
+        words = rest;
+    }
+    Kind::Name
+}
+
 // The kind of a word.
 fn kind_of_word(word: &[u8]) -> Kind
     ensures { result ≡ kind_said word.now }
 {
-    if same(word, b"and") {
-        Kind::And
-    } else if same(word, b"as") {
-        Kind::As
-    } else if same(word, b"between") {
-        Kind::Between
-    } else if same(word, b"create") {
-        Kind::Create
-    } else if same(word, b"from") {
-        Kind::From
-    } else if same(word, b"in") {
-        Kind::In
-    } else if same(word, b"inner") {
-        Kind::Inner
-    } else if same(word, b"join") {
-        Kind::Join
-    } else if same(word, b"like") {
-        Kind::Like
-    } else if same(word, b"not") {
-        Kind::Not
-    } else if same(word, b"on") {
-        Kind::On
-    } else if same(word, b"or") {
-        Kind::Or
-    } else if same(word, b"select") {
-        Kind::Select
-    } else if same(word, b"table") {
-        Kind::Table
-    } else if same(word, b"where") {
-        Kind::Where
-    } else if same(word, b"int") {
-        Kind::Int
-    } else if same(word, b"integer") {
-        Kind::Integer
-    } else if same(word, b"bigint") {
-        Kind::Bigint
-    } else if same(word, b"text") {
-        Kind::TextType
-    } else if is_among(word, &OTHER_RESERVED) {
-        Kind::Reserved
-    } else {
-        Kind::Name
-    }
-}
-
-// The reserved words that the grammar has no place for.
-const OTHER_RESERVED: [&[u8]; 25] = [
-    b"asc",
-    b"by",
-    b"cross",
-    b"desc",
-    b"distinct",
-    b"except",
-    b"exists",
-    b"fetch",
-    b"full",
-    b"group",
-    b"having",
-    b"intersect",
-    b"is",
-    b"left",
-    b"limit",
-    b"natural",
-    b"null",
-    b"offset",
-    b"order",
-    b"outer",
-    b"right",
-    b"union",
-    b"using",
-    b"window",
-    b"with",
-];
-
-fn is_among(word: &[u8], words: &[&[u8]]) -> bool
-    ensures { result ≡ list_any (λ other. bytes_eq word.now other.now) words.now }
-{
-    words.iter().any(|other| same(word, other))
+    kind_among(word, &WORDS)
 }
 
 fn kind_of_number(number: u64) -> Kind

@@ -15,6 +15,3 @@ pub use parsing::parse;
 pub use tree::{
     Alias, ColumnItem, ColumnName, Cond, CreateTable, Expr, Item, Items, Op, Script, Select, Source,
 };
-
-#[cfg(test)]
-mod tests;

@@ -5,7 +5,7 @@ ghost use Rattle.sql_text.specs.Reading.{Gives};
 
 use crate::errors::ParseError;
 use crate::kinds::Kind;
-use crate::reading::{after, begins_name, literal, name, place_of};
+use crate::reading::{after, begins_name, literal, name, paired, place_of};
 use crate::tree::{ColumnName, Expr};
 use sql_lex::Token;
 use std::alloc::Global;
@@ -21,7 +21,7 @@ pub fn colref(
     let (first, rest) = name(alloc, tokens, end)?;
     match after(rest, Kind::Dot) {
         Some(rest) => {
-            let (column, rest) = name(alloc, rest, end)?;
+            let ((first, column), rest) = paired(first, name(alloc, rest, end))?;
             Ok((
                 ColumnName {
                     at: first.at,

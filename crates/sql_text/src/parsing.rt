@@ -1,15 +1,17 @@
 // A script: what it declares, and what it selects.
-ghost use Rattle.std.specs.Prelude.{◌≡◌, ◌⊎◌, ◌++◌, ℕ, IfOk, Result, Err};
+ghost use Rattle.std.specs.Prelude.{◌≡◌, ◌⊎◌, ℕ, length, IfOk, IfErr, Result, Err};
 ghost use Rattle.sql_text.specs.declared.tree.Script.{Script as Tree};
 ghost use Rattle.sql_text.specs.declared.errors.ParseError.{ParseError as Error};
-ghost use Rattle.sql_text.specs.Meaning.{column_of, more_columns_of, column_list_of, create_of, creates_of, script_of};
+ghost use Rattle.sql_text.specs.Meaning.{column_of, column_list_of, create_of, creates_of, script_of};
 ghost use Rattle.sql_text.specs.Formed.{IsWellFormed};
 ghost use Rattle.sql_text.specs.Reading.{Gives};
-ghost use Rattle.sql_text.specs.Sentence.{IsSentence, IsSyntaxError, IsTooDeep, IsReading};
+ghost use Rattle.sql_text.specs.Sentence.{IsSentence, IsSyntaxError, IsTooDeep, IsReading, place};
 
 use crate::errors::ParseError;
 use crate::kinds::Kind;
-use crate::reading::{after, begins_with, column_type, expect, name, passes, place_of};
+use crate::reading::{
+    after, appended, begins_with, column_type, expect, followed, name, paired, passes, place_of,
+};
 use crate::sources::select;
 use crate::tree::{ColumnItem, CreateTable, Script};
 use rpt_base::Listed;
@@ -34,24 +36,6 @@ fn column(alloc: Global, tokens: &[Token], end: u32) -> Result<(ColumnItem, &[To
     ))
 }
 
-// The columns behind the first.
-fn more_columns(
-    mut found: Vec<ColumnItem>,
-    alloc: Global,
-    tokens: &[Token],
-    end: u32,
-) -> Result<(Vec<ColumnItem>, &[Token]), ParseError>
-    ensures { (n : ℕ) → Gives (λ more. found.items ++ more_columns_of more) (λ all. all.0.items) (λ all. all.1.now) n tokens.now end result }
-{
-    let mut rest = tokens;
-    while let Some(behind) = after(rest, Kind::Comma) {
-        let (next, behind) = column(alloc, behind, end)?;
-        found.push(next)?;
-        rest = behind;
-    }
-    Ok((found, rest))
-}
-
 fn columns(
     alloc: Global,
     tokens: &[Token],
@@ -59,11 +43,16 @@ fn columns(
 ) -> Result<(Listed<ColumnItem>, &[Token]), ParseError>
     ensures { (n : ℕ) → Gives column_list_of (λ found. found.0) (λ found. found.1.now) n tokens.now end result }
 {
-    let (first, rest) = column(alloc, tokens, end)?;
     let mut found = Vec::new(alloc);
-    found.push(first)?;
-    let (all, rest) = more_columns(found, alloc, rest, end)?;
-    Ok((Listed::from_vec(all), rest))
+    let mut rest = tokens;
+    loop {
+        let (all, behind) = appended(found, column(alloc, rest, end))?;
+        found = all;
+        match after(behind, Kind::Comma) {
+            Some(next) => rest = next,
+            None => return Ok((Listed::from_vec(found), behind)),
+        }
+    }
 }
 
 fn create(alloc: Global, tokens: &[Token], end: u32) -> Result<(CreateTable, &[Token]), ParseError>
@@ -72,10 +61,10 @@ fn create(alloc: Global, tokens: &[Token], end: u32) -> Result<(CreateTable, &[T
     let rest = expect(tokens, end, Kind::Create)?;
     let rest = expect(rest, end, Kind::Table)?;
     let (table, rest) = name(alloc, rest, end)?;
-    let rest = expect(rest, end, Kind::LeftParen)?;
-    let (columns, rest) = columns(alloc, rest, end)?;
-    let rest = expect(rest, end, Kind::RightParen)?;
-    let rest = expect(rest, end, Kind::Semicolon)?;
+    let (table, rest) = followed(table, rest, end, Kind::LeftParen)?;
+    let (found, rest) = paired(table, columns(alloc, rest, end))?;
+    let (found, rest) = followed(found, rest, end, Kind::RightParen)?;
+    let ((table, columns), rest) = followed(found, rest, end, Kind::Semicolon)?;
     Ok((
         CreateTable {
             at: table.at,
@@ -97,8 +86,8 @@ fn creates(
     let mut found = Vec::new(alloc);
     let mut rest = tokens;
     while begins_with(rest, Kind::Create) {
-        let (next, behind) = create(alloc, rest, end)?;
-        found.push(next)?;
+        let (all, behind) = appended(found, create(alloc, rest, end))?;
+        found = all;
         rest = behind;
     }
     Ok((Listed::from_vec(found), rest))
@@ -119,6 +108,20 @@ fn script(
     Ok((Script { tables, select }, rest))
 }
 
+// What was read, where no token is left.
+fn alone<T: Drop>(found: T, rest: &[Token], end: u32) -> Result<T, ParseError>
+    ensures ok { IfOk result (λ all. (all ≡ found) × (length rest.now ≡ 0)) }
+    ensures err { IfErr result (λ error. (error ≡ ParseError.Syntax (place rest.now end)) × (length rest.now ≡ 0 → ⊥)) }
+{
+    if rest.is_empty() {
+        Ok(found)
+    } else {
+        Err(ParseError::Syntax {
+            at: place_of(rest, end),
+        })
+    }
+}
+
 /// The syntax tree of a script's tokens, where `end` is the script's length.
 ///
 /// `Syntax` is at the first token with which no script goes on so or, where the tokens begin a script and are none, at `end`.
@@ -132,10 +135,5 @@ pub fn parse(alloc: Global, tokens: &[Token], end: u32) -> Result<Script, ParseE
     ensures only { (said : Result Tree Error) → IsReading 64 tokens.now end said → (result ≡ Err ParseError.Memory) ⊎ (result ≡ said) }
 {
     let (script, rest) = script(alloc, tokens, end, MAX_LEVELS)?;
-    if !rest.is_empty() {
-        return Err(ParseError::Syntax {
-            at: place_of(rest, end),
-        });
-    }
-    Ok(script)
+    alone(script, rest, end)
 }

@@ -1,5 +1,8 @@
 // The least parts of a script. Each reader takes the tokens that are left, and gives what it read and the tokens behind.
-ghost use Rattle.std.specs.Prelude.{◌≡◌, ◌≤◌, ◌∷◌, [], ℕ, pos, neg_ℤ, true, IfOk, IfSome, IfNone, IsTrue, ◌↔◌};
+//
+// What a reader read before it passes to `followed`, `paired` or `appended`, and holds no part of the tree itself where it
+// may return early: each part that it held there would make the model of its body, and so its proof, much larger.
+ghost use Rattle.std.specs.Prelude.{◌≡◌, ◌≤◌, ◌∷◌, ◌++◌, ◌⊎◌, [], ℕ, pos, neg_ℤ, true, IfOk, IfSome, IfNone, IsTrue, ◌↔◌, MatchResult, Ok, Err};
 ghost use Rattle.sql_text.specs.Kinds.{kind_of as its_kind, code, numbers, among};
 ghost use Rattle.sql_text.specs.Grammar.{word, names, types, comparisons, magnitudes};
 ghost use Rattle.sql_text.specs.Meaning.{written as written_in, magnitude as magnitude_in, named, is_there, type_by, type_of as type_said, op_by, op_of as op_said, negative_of, literal_of, text_of as text_said};
@@ -71,6 +74,42 @@ pub fn expect(tokens: &[Token], end: u32, kind: Kind) -> Result<&[Token], ParseE
             at: place_of(tokens, end),
         }),
     }
+}
+
+/// What was found before, and what follows a token of this kind, which must stand first.
+pub fn followed<T: Drop>(
+    found: T,
+    tokens: &[Token],
+    end: u32,
+    kind: Kind,
+) -> Result<(T, &[Token]), ParseError>
+    ensures { (n : ℕ) → Gives {p = word kind} (λ _. found) (λ it. it.0) (λ it. it.1.now) n tokens.now end result }
+{
+    let rest = expect(tokens, end, kind)?;
+    Ok((found, rest))
+}
+
+/// What was found before, and what was read next.
+pub fn paired<T: Drop, U: Drop>(
+    found: T,
+    next: Result<(U, &[Token]), ParseError>,
+) -> Result<((T, U), &[Token]), ParseError>
+    ensures { MatchResult result (λ both. (next.entry ≡ Ok (both.0.1, both.1)) × (both.0.0 ≡ found)) (λ error. next.entry ≡ Err error) }
+{
+    let (next, rest) = next?;
+    Ok(((found, next), rest))
+}
+
+/// What was found before, and behind it what was read next.
+pub fn appended<T: Drop>(
+    mut found: Vec<T>,
+    next: Result<(T, &[Token]), ParseError>,
+) -> Result<(Vec<T>, &[Token]), ParseError>
+    ensures { MatchResult result (λ all. (one : T) × (next.entry ≡ Ok (one, all.1)) × (all.0.items ≡ found.items ++ one ∷ [])) (λ error. (next.entry ≡ Err error) ⊎ (error ≡ ParseError.Memory)) }
+{
+    let (next, rest) = next?;
+    found.push(next)?;
+    Ok((found, rest))
 }
 
 /// Whether a token of this kind stands first, and what follows it.

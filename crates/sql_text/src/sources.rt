@@ -2,14 +2,16 @@
 ghost use Rattle.std.specs.Prelude.{◌≡◌, ℕ, IsTrue, ◌↔◌, [], ◌∷◌, ◌++◌};
 ghost use Rattle.sql_text.specs.declared.kinds.Kind.TheVariants as kind;
 ghost use Rattle.sql_text.specs.Kinds.{code};
-ghost use Rattle.sql_text.specs.Meaning.{alias_of, title_of as title_said, item_of, more_items_of, item_list_of, items_of, factor_of, joined_on, join_of, joins_of, more_sources_of, source_list_of, source_of, filter_of, select_of};
+ghost use Rattle.sql_text.specs.Meaning.{alias_of, title_of as title_said, item_of, item_list_of, items_of, factor_of, unjoined, joined_on, join_of, joins_of, source_list_of, source_of, filter_of, select_of};
 ghost use Rattle.sql_text.specs.Reading.{Gives, Heads};
 
 use crate::conditions::cond;
 use crate::errors::ParseError;
 use crate::kinds::Kind;
 use crate::operands::colref;
-use crate::reading::{after, begins_name, begins_with, expect, name, passes};
+use crate::reading::{
+    after, appended, begins_name, begins_with, expect, followed, name, paired, passes,
+};
 use crate::tree::{Alias, Cond, Item, Items, Select, Source};
 use rpt_base::{Listed, Name};
 use sql_lex::Token;
@@ -53,24 +55,6 @@ fn item(alloc: Global, tokens: &[Token], end: u32) -> Result<(Item, &[Token]), P
     ))
 }
 
-// The items behind the first.
-fn more_items(
-    mut found: Vec<Item>,
-    alloc: Global,
-    tokens: &[Token],
-    end: u32,
-) -> Result<(Vec<Item>, &[Token]), ParseError>
-    ensures { (n : ℕ) → Gives (λ more. found.items ++ more_items_of more) (λ all. all.0.items) (λ all. all.1.now) n tokens.now end result }
-{
-    let mut rest = tokens;
-    while let Some(behind) = after(rest, Kind::Comma) {
-        let (next, behind) = item(alloc, behind, end)?;
-        found.push(next)?;
-        rest = behind;
-    }
-    Ok((found, rest))
-}
-
 fn item_list(
     alloc: Global,
     tokens: &[Token],
@@ -78,11 +62,16 @@ fn item_list(
 ) -> Result<(Listed<Item>, &[Token]), ParseError>
     ensures { (n : ℕ) → Gives item_list_of (λ found. found.0) (λ found. found.1.now) n tokens.now end result }
 {
-    let (first, rest) = item(alloc, tokens, end)?;
     let mut found = Vec::new(alloc);
-    found.push(first)?;
-    let (all, rest) = more_items(found, alloc, rest, end)?;
-    Ok((Listed::from_vec(all), rest))
+    let mut rest = tokens;
+    loop {
+        let (all, behind) = appended(found, item(alloc, rest, end))?;
+        found = all;
+        match after(behind, Kind::Comma) {
+            Some(next) => rest = next,
+            None => return Ok((Listed::from_vec(found), behind)),
+        }
+    }
 }
 
 fn items(alloc: Global, tokens: &[Token], end: u32) -> Result<(Items, &[Token]), ParseError>
@@ -97,30 +86,46 @@ fn items(alloc: Global, tokens: &[Token], end: u32) -> Result<(Items, &[Token]),
     }
 }
 
+// A table and its alias. The source is made of them last.
+fn table_of(
+    alloc: Global,
+    tokens: &[Token],
+    end: u32,
+) -> Result<((Alias, Option<Alias>), &[Token]), ParseError>
+    ensures { (n : ℕ) → Gives factor_of (λ found. unjoined found.0.0 found.0.1) (λ found. found.1.now) n tokens.now end result }
+{
+    let (table, rest) = name(alloc, tokens, end)?;
+    paired(table, alias(alloc, rest, end))
+}
+
+// A table that is joined to none before it.
+fn unjoined(table: Alias, alias: Option<Alias>) -> Source
+    ensures { result ≡ unjoined table alias }
+{
+    Source {
+        at: table.at,
+        table: table.name,
+        alias,
+        on: None,
+    }
+}
+
 // A table with its alias, not yet joined to others.
 fn factor(alloc: Global, tokens: &[Token], end: u32) -> Result<(Source, &[Token]), ParseError>
     ensures { (n : ℕ) → Gives factor_of (λ found. found.0) (λ found. found.1.now) n tokens.now end result }
 {
-    let (table, rest) = name(alloc, tokens, end)?;
-    let (alias, rest) = alias(alloc, rest, end)?;
-    Ok((
-        Source {
-            at: table.at,
-            table: table.name,
-            alias,
-            on: None,
-        },
-        rest,
-    ))
+    let ((table, alias), rest) = table_of(alloc, tokens, end)?;
+    Ok((unjoined(table, alias), rest))
 }
 
-fn joined(source: Source, on: Cond) -> Source
-    ensures { result ≡ joined_on source on }
+// A table that is joined to those before it.
+fn joined(table: Alias, alias: Option<Alias>, on: Cond) -> Source
+    ensures { result ≡ joined_on (unjoined table alias) on }
 {
     Source {
-        at: source.at,
-        table: source.table,
-        alias: source.alias,
+        at: table.at,
+        table: table.name,
+        alias,
         on: Some(on),
     }
 }
@@ -136,10 +141,10 @@ fn join(
 {
     let (_, rest) = passes(tokens, Kind::Inner);
     let rest = expect(rest, end, Kind::Join)?;
-    let (source, rest) = factor(alloc, rest, end)?;
-    let rest = expect(rest, end, Kind::On)?;
-    let (on, rest) = cond(alloc, rest, end, levels)?;
-    Ok((joined(source, on), rest))
+    let (table, rest) = table_of(alloc, rest, end)?;
+    let (table, rest) = followed(table, rest, end, Kind::On)?;
+    let (((table, alias), on), rest) = paired(table, cond(alloc, rest, end, levels))?;
+    Ok((joined(table, alias, on), rest))
 }
 
 fn begins_join(tokens: &[Token]) -> bool
@@ -160,8 +165,8 @@ fn joins(
 {
     let mut rest = tokens;
     while begins_join(rest) {
-        let (next, behind) = join(alloc, rest, end, levels)?;
-        found.push(next)?;
+        let (all, behind) = appended(found, join(alloc, rest, end, levels))?;
+        found = all;
         rest = behind;
     }
     Ok((found, rest))
@@ -169,7 +174,7 @@ fn joins(
 
 // A source with those that are joined to it, behind those that were found.
 fn source(
-    mut found: Vec<Source>,
+    found: Vec<Source>,
     alloc: Global,
     tokens: &[Token],
     end: u32,
@@ -177,28 +182,8 @@ fn source(
 ) -> Result<(Vec<Source>, &[Token]), ParseError>
     ensures { Gives (λ more. found.items ++ source_of more) (λ all. all.0.items) (λ all. all.1.now) levels tokens.now end result }
 {
-    let (first, rest) = factor(alloc, tokens, end)?;
-    found.push(first)?;
+    let (found, rest) = appended(found, factor(alloc, tokens, end))?;
     joins(found, alloc, rest, end, levels)
-}
-
-// The sources behind the first comma.
-fn more_sources(
-    mut found: Vec<Source>,
-    alloc: Global,
-    tokens: &[Token],
-    end: u32,
-    levels: u32,
-) -> Result<(Vec<Source>, &[Token]), ParseError>
-    ensures { Gives (λ more. found.items ++ more_sources_of more) (λ all. all.0.items) (λ all. all.1.now) levels tokens.now end result }
-{
-    let mut rest = tokens;
-    while let Some(behind) = after(rest, Kind::Comma) {
-        let (all, behind) = source(found, alloc, behind, end, levels)?;
-        found = all;
-        rest = behind;
-    }
-    Ok((found, rest))
 }
 
 fn sources(
@@ -209,9 +194,16 @@ fn sources(
 ) -> Result<(Listed<Source>, &[Token]), ParseError>
     ensures { Gives source_list_of (λ found. found.0) (λ found. found.1.now) levels tokens.now end result }
 {
-    let (found, rest) = source(Vec::new(alloc), alloc, tokens, end, levels)?;
-    let (all, rest) = more_sources(found, alloc, rest, end, levels)?;
-    Ok((Listed::from_vec(all), rest))
+    let mut found = Vec::new(alloc);
+    let mut rest = tokens;
+    loop {
+        let (all, behind) = source(found, alloc, rest, end, levels)?;
+        found = all;
+        match after(behind, Kind::Comma) {
+            Some(next) => rest = next,
+            None => return Ok((Listed::from_vec(found), behind)),
+        }
+    }
 }
 
 // `[ WHERE cond ]`
@@ -243,9 +235,9 @@ pub fn select(
 {
     let rest = expect(tokens, end, Kind::Select)?;
     let (items, rest) = items(alloc, rest, end)?;
-    let rest = expect(rest, end, Kind::From)?;
-    let (sources, rest) = sources(alloc, rest, end, levels)?;
-    let (filter, rest) = filter(alloc, rest, end, levels)?;
+    let (items, rest) = followed(items, rest, end, Kind::From)?;
+    let (found, rest) = paired(items, sources(alloc, rest, end, levels))?;
+    let (((items, sources), filter), rest) = paired(found, filter(alloc, rest, end, levels))?;
     Ok((
         Select {
             items,

@@ -1,4 +1,4 @@
-use Rattle.std.proofs.Common.{◌≡◌, ◌+◌, ◌-◌, length, arith, refl, sym, ap, ◌∙◌, [], ◌∷◌, List}
+use Rattle.std.proofs.Common.{◌≡◌, ◌+◌, ◌-◌, length, arith, refl, sym, ap, ◌∙◌, [], ◌∷◌}
 use Rattle.std.proofs.lemmas.Result.{err_from_is_err_and}
 use Rattle.sql_text.specs.declared.kinds.Kind.TheVariants as k
 use Rattle.sql_text.specs.Kinds.{code}
@@ -6,18 +6,12 @@ use Rattle.sql_text.specs.Grammar.{Part, Tree, token, word, many, opt, level, li
 use Rattle.sql_text.specs.Grammar as g
 use Rattle.sql_text.specs.declared.tree.Cond.{Cond}
 use Rattle.sql_text.specs.declared.tree.Cond.TheVariants as condition
-use Rattle.sql_text.specs.Meaning.{neg_of, prim_of, conjs_of, negs_of, test_of, tests, joined}
+use Rattle.sql_text.specs.Meaning.{neg_of, prim_of, conj_of, conjs_of, negs_of, test_of, tests}
 use Rattle.sql_text.specs.Reading.{Starts}
-use Rattle.sql_text.proofs.Compose.{reads_both}
-use Rattle.sql_text.proofs.Loops.{grows_start, grows_more, grows_end}
-use Rattle.sql_text.proofs.Leads.{itself, behind, at_line, at_left, at_right, at_level, opens, done, hands_on, fails, fails_first, fails_item, begun, reads_kind, other_kind, none_of, shorter}
+use Rattle.sql_text.proofs.Loops.{awaits_first, awaits_next, goes_append, goes_end}
+use Rattle.sql_text.proofs.Members.{disjuncts, conjuncts, or_joins, and_joins}
+use Rattle.sql_text.proofs.Leads.{behind, at_line, at_left, at_right, at_level, opens, done, hands_on, fails, fails_first, other_kind, none_of, shorter, read_ok, append_err}
 use Rattle.sql_text.proofs.conditions.+cond.Goals as goal
-
-abbrev or_conj : Part
-or_conj = word k.Or ▸ line g.conj
-
-abbrev and_neg : Part
-and_neg = word k.And ▸ line g.neg
 
 abbrev not_neg : Part
 not_neg = level k.Not (line g.neg)
@@ -25,109 +19,63 @@ not_neg = level k.Not (line g.neg)
 abbrev in_parens : Part
 in_parens = level k.LeftParen (line g.cond ▸ word k.RightParen)
 
-pub cond-returns-in_err-first : goal.cond-returns-in_err-first
-cond-returns-in_err-first m c =
+pub cond-loop-all-init : goal.cond-loop-all-init
+cond-loop-all-init m c = rw c.new-found.ensures.items (awaits_first disjuncts (λ d. conj_of d ∷ []) conjs_of c.args.levels c.args.tokens.now refl (λ d m. refl))
+
+pub cond-returns-in_err-all : goal.cond-returns-in_err-all
+cond-returns-in_err-all m c =
     let p = err_from_is_err_and c.from_residual.result c.from_residual.ensures.1 in
-    let l0 = at_line g.cond in
-    rw (p.1, p.2) (fails_first l0 refl c.args.end c.in_err-first.field-0.0 (c.in_err-first.ensures))
+    rw (p.1, p.2) (fails (at_line g.cond) c.args.end c.in_err-all.field-0.0 (c.loop-all.invariant.fails c.args.end c.in_err-all.field-0.0
+    (append_err conj_of (λ r. r.0) (λ r. r.1.now) _ _ c.args.end c.in_err-all.ensures c.conj.ensures)))
 
-pub cond-returns-in_err-more : goal.cond-returns-in_err-more
-cond-returns-in_err-more m c =
-    let p = err_from_is_err_and c.from_residual-in_err-more.result c.from_residual-in_err-more.ensures.1 in
-    let l0 = at_line g.cond in
-    let first = c.in_ok-first.ensures in
-    let l1 = behind l0 refl first.reads in
-    rw (p.1, p.2) (fails l1 c.args.end c.in_err-more.field-0.0 (c.in_err-more.ensures))
-
-pub cond-returns : goal.cond-returns
-cond-returns m c =
-    let l0 = at_line g.cond in
-    let first = c.in_ok-first.ensures in
-    let l1 = behind l0 refl first.reads in
-    let more = c.in_ok-more.ensures in
-    done l1 more.tree more.reads
-    (ap (λ (x : Cond). joined condition.Or x (conjs_of more.tree)) first.value
-    ∙ ap (λ (xs : List Cond). joined condition.Or c.in_ok-first.first xs) more.value ∙ sym c.in_ok-any_of.ensures)
-
-pub conjs-loop-behind-init : goal.conjs-loop-behind-init
-conjs-loop-behind-init m c = rw c.new-found.ensures (grows_start conjs_of c.args.levels c.args.tokens.now [])
-
-pub conjs-returns-in_err-next : goal.conjs-returns-in_err-next
-conjs-returns-in_err-next m c =
-    let p = err_from_is_err_and c.from_residual.result c.from_residual.ensures.1 in
-    let separator = c.in-Some.ensures.some in
-    rw (p.1, p.2) (fails_item c.loop-behind.invariant.leads refl (begun separator) c.args.end c.in_err-next.field-0.0
-    (fails (behind (itself or_conj) refl (reads_kind separator)) c.args.end c.in_err-next.field-0.0 (c.in_err-next.ensures)))
-
-pub conjs-loop-behind-smaller : goal.conjs-loop-behind-smaller
-conjs-loop-behind-smaller m c =
-    let next = c.in_ok-next.ensures in
+pub cond-loop-all-smaller : goal.cond-loop-all-smaller
+cond-loop-all-smaller m c =
+    let next = read_ok conj_of (λ r. r.0) (λ r. r.1.now) c.args.end c.in_ok-all.ensures.1 c.conj.ensures in
     let short = shorter next.reads in
     let longer = ap length c.in-Some.ensures.some.splits in
     omega arith
 
-pub conjs-loop-behind-preserved : goal.conjs-loop-behind-preserved
-conjs-loop-behind-preserved m c =
-    let separator = c.in-Some.ensures.some in
-    let next = c.in_ok-next.ensures in
-    rw c.in_ok-push.ensures.ok
-    (grows_more (c.in_ok-next.next ∷ []) refl (begun separator) (λ m. ap (λ (x : Cond). x ∷ conjs_of m) next.value)
-    c.loop-behind.invariant (reads_both {p = word k.Or} {q = line g.conj} refl (reads_kind separator) next.reads))
+pub cond-loop-all-preserved : goal.cond-loop-all-preserved
+cond-loop-all-preserved m c =
+    let next = read_ok conj_of (λ r. r.0) (λ r. r.1.now) c.args.end c.in_ok-all.ensures.1 c.conj.ensures in
+    let read = c.loop-all.invariant.read next.tree _ next.reads in
+    awaits_next (λ d. conj_of d ∷ []) refl (λ s d m. refl) (goes_append _ next.value c.in_ok-all.ensures.2 read) c.in-Some.ensures.some
 
-pub conjs-returns : goal.conjs-returns
-conjs-returns m c = grows_end refl c.loop-behind.invariant (none_of or_conj (code k.Or ∷ []) refl refl c.in_default.ensures.none)
+pub cond-returns-in-None : goal.cond-returns-in-None
+cond-returns-in-None m c =
+    let next = read_ok conj_of (λ r. r.0) (λ r. r.1.now) c.args.end c.in_ok-all.ensures.1 c.conj.ensures in
+    let read = c.loop-all.invariant.read next.tree _ next.reads in
+    let all = goes_end refl (goes_append _ next.value c.in_ok-all.ensures.2 read) c.in-None.ensures.none in
+    done (at_line g.cond) all.tree all.reads (or_joins all.tree _ _ all.value c.any_of.ensures)
 
-pub conj-returns-in_err-first : goal.conj-returns-in_err-first
-conj-returns-in_err-first m c =
+pub conj-loop-all-init : goal.conj-loop-all-init
+conj-loop-all-init m c = rw c.new-found.ensures.items (awaits_first conjuncts (λ d. neg_of d ∷ []) negs_of c.args.levels c.args.tokens.now refl (λ d m. refl))
+
+pub conj-returns-in_err-all : goal.conj-returns-in_err-all
+conj-returns-in_err-all m c =
     let p = err_from_is_err_and c.from_residual.result c.from_residual.ensures.1 in
-    let l0 = at_line g.conj in
-    rw (p.1, p.2) (fails_first l0 refl c.args.end c.in_err-first.field-0.0 (c.in_err-first.ensures))
+    rw (p.1, p.2) (fails (at_line g.conj) c.args.end c.in_err-all.field-0.0 (c.loop-all.invariant.fails c.args.end c.in_err-all.field-0.0
+    (append_err neg_of (λ r. r.0) (λ r. r.1.now) _ _ c.args.end c.in_err-all.ensures c.neg.ensures)))
 
-pub conj-returns-in_err-more : goal.conj-returns-in_err-more
-conj-returns-in_err-more m c =
-    let p = err_from_is_err_and c.from_residual-in_err-more.result c.from_residual-in_err-more.ensures.1 in
-    let l0 = at_line g.conj in
-    let first = c.in_ok-first.ensures in
-    let l1 = behind l0 refl first.reads in
-    rw (p.1, p.2) (fails l1 c.args.end c.in_err-more.field-0.0 (c.in_err-more.ensures))
-
-pub conj-returns : goal.conj-returns
-conj-returns m c =
-    let l0 = at_line g.conj in
-    let first = c.in_ok-first.ensures in
-    let l1 = behind l0 refl first.reads in
-    let more = c.in_ok-more.ensures in
-    done l1 more.tree more.reads
-    (ap (λ (x : Cond). joined condition.And x (negs_of more.tree)) first.value
-    ∙ ap (λ (xs : List Cond). joined condition.And c.in_ok-first.first xs) more.value ∙ sym c.in_ok-all_of.ensures)
-
-pub negs-loop-behind-init : goal.negs-loop-behind-init
-negs-loop-behind-init m c = rw c.new-found.ensures (grows_start negs_of c.args.levels c.args.tokens.now [])
-
-pub negs-returns-in_err-next : goal.negs-returns-in_err-next
-negs-returns-in_err-next m c =
-    let p = err_from_is_err_and c.from_residual.result c.from_residual.ensures.1 in
-    let separator = c.in-Some.ensures.some in
-    rw (p.1, p.2) (fails_item c.loop-behind.invariant.leads refl (begun separator) c.args.end c.in_err-next.field-0.0
-    (fails (behind (itself and_neg) refl (reads_kind separator)) c.args.end c.in_err-next.field-0.0 (c.in_err-next.ensures)))
-
-pub negs-loop-behind-smaller : goal.negs-loop-behind-smaller
-negs-loop-behind-smaller m c =
-    let next = c.in_ok-next.ensures in
+pub conj-loop-all-smaller : goal.conj-loop-all-smaller
+conj-loop-all-smaller m c =
+    let next = read_ok neg_of (λ r. r.0) (λ r. r.1.now) c.args.end c.in_ok-all.ensures.1 c.neg.ensures in
     let short = shorter next.reads in
     let longer = ap length c.in-Some.ensures.some.splits in
     omega arith
 
-pub negs-loop-behind-preserved : goal.negs-loop-behind-preserved
-negs-loop-behind-preserved m c =
-    let separator = c.in-Some.ensures.some in
-    let next = c.in_ok-next.ensures in
-    rw c.in_ok-push.ensures.ok
-    (grows_more (c.in_ok-next.next ∷ []) refl (begun separator) (λ m. ap (λ (x : Cond). x ∷ negs_of m) next.value)
-    c.loop-behind.invariant (reads_both {p = word k.And} {q = line g.neg} refl (reads_kind separator) next.reads))
+pub conj-loop-all-preserved : goal.conj-loop-all-preserved
+conj-loop-all-preserved m c =
+    let next = read_ok neg_of (λ r. r.0) (λ r. r.1.now) c.args.end c.in_ok-all.ensures.1 c.neg.ensures in
+    let read = c.loop-all.invariant.read next.tree _ next.reads in
+    awaits_next (λ d. neg_of d ∷ []) refl (λ s d m. refl) (goes_append _ next.value c.in_ok-all.ensures.2 read) c.in-Some.ensures.some
 
-pub negs-returns : goal.negs-returns
-negs-returns m c = grows_end refl c.loop-behind.invariant (none_of and_neg (code k.And ∷ []) refl refl c.in_default.ensures.none)
+pub conj-returns-in-None : goal.conj-returns-in-None
+conj-returns-in-None m c =
+    let next = read_ok neg_of (λ r. r.0) (λ r. r.1.now) c.args.end c.in_ok-all.ensures.1 c.neg.ensures in
+    let read = c.loop-all.invariant.read next.tree _ next.reads in
+    let all = goes_end refl (goes_append _ next.value c.in_ok-all.ensures.2 read) c.in-None.ensures.none in
+    done (at_line g.conj) all.tree all.reads (and_joins all.tree _ _ all.value c.all_of.ensures)
 
 pub neg-returns-then-levels-eq0 : goal.neg-returns-then-levels-eq0
 neg-returns-then-levels-eq0 m c =
@@ -174,26 +122,14 @@ prim-returns-in_err-inner-in-Some m c =
     let l2 = at_level l1 paren one_more in
     rw (p.1, p.2) (fails_first l2 refl c.args.end c.in_err-inner-in-Some.field-0.0 (c.in_err-inner-in-Some.ensures))
 
-pub prim-returns-in_err-rest-in-Some : goal.prim-returns-in_err-rest-in-Some
-prim-returns-in_err-rest-in-Some m c =
-    let p = err_from_is_err_and c.from_residual-in_err-rest-in-Some.result c.from_residual-in_err-rest-in-Some.ensures.1 in
+pub prim-returns-in_ok-inner-in-Some : goal.prim-returns-in_ok-inner-in-Some
+prim-returns-in_ok-inner-in-Some m c =
     let paren : Starts k.LeftParen c.args.tokens.now c.in-Some.rest.now = record { token = c.in-Some.token.now; splits = c.in-Some.ensures.some.0; is = c.in-Some.ensures.some.1 } in
     let l1 = at_left (at_line g.prim) (other_kind tests paren refl refl) in
     let one_more : c.args.levels ≡ (c.args.levels - 1) + 1 = omega arith in
-    let l2 = at_level l1 paren one_more in
     let inner = c.in_ok-inner-in-Some.ensures in
-    rw (p.1, p.2) (fails (behind l2 refl inner.reads) c.args.end c.in_err-rest-in-Some.field-0.0 (c.in_err-rest-in-Some.ensures (c.args.levels - 1)))
-
-pub prim-returns-in_ok-rest-in-Some : goal.prim-returns-in_ok-rest-in-Some
-prim-returns-in_ok-rest-in-Some m c =
-    let paren : Starts k.LeftParen c.args.tokens.now c.in-Some.rest.now = record { token = c.in-Some.token.now; splits = c.in-Some.ensures.some.0; is = c.in-Some.ensures.some.1 } in
-    let l1 = at_left (at_line g.prim) (other_kind tests paren refl refl) in
-    let one_more : c.args.levels ≡ (c.args.levels - 1) + 1 = omega arith in
-    let l2 = at_level l1 paren one_more in
-    let inner = c.in_ok-inner-in-Some.ensures in
-    let close = c.in_ok-rest-in-Some.ensures (c.args.levels - 1) in
-    done (behind l2 refl inner.reads) close.tree close.reads
-    (inner.value)
+    hands_on {p = word k.RightParen} (λ _. c.in_ok-inner-in-Some.inner) prim_of (λ r. r.0) (λ r. r.0) (λ r. r.1.now) c.args.end
+    (behind (at_level l1 paren one_more) refl inner.reads) (λ d r e. inner.value ∙ e) c.followed.result (c.followed.ensures (c.args.levels - 1))
 
 pub prim-returns-in-None : goal.prim-returns-in-None
 prim-returns-in-None m c =

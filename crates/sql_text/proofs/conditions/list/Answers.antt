@@ -5,7 +5,7 @@ use Rattle.sql_text.specs.Grammar.{Part, Tree, token, word, many, opt, level, li
 use Rattle.sql_text.specs.Grammar as g
 use Rattle.sql_text.specs.Meaning.{list, list_of, literal_list_of}
 use Rattle.sql_text.proofs.Same.{regrouped, ungroup}
-use Rattle.sql_text.proofs.Leads.{itself, behind, at_same, done, fails, fails_first}
+use Rattle.sql_text.proofs.Leads.{itself, behind, at_same, hands_on, fails_first}
 use Rattle.sql_text.proofs.conditions.list.Goals as goal
 
 abbrev literal_list : Part
@@ -23,14 +23,6 @@ returns-in_err-values c n =
     let l = at_same (behind (itself list) refl left.reads) (regrouped {a = line g.literal} {b = many (word k.Comma ▸ line g.literal)} {c = word k.RightParen}) refl in
     rw (p.1, p.2) (fails_first l refl c.args.end c.in_err-values.field-0.0 (c.in_err-values.ensures n))
 
-pub returns-in_err-rest-2 : goal.returns-in_err-rest-2
-returns-in_err-rest-2 c n =
-    let p = err_from_is_err_and c.from_residual-in_err-rest-2.result c.from_residual-in_err-rest-2.ensures.1 in
-    let left = c.in_ok-rest.ensures n in
-    let values = c.in_ok-values.ensures n in
-    let l = at_same (behind (itself list) refl left.reads) (regrouped {a = line g.literal} {b = many (word k.Comma ▸ line g.literal)} {c = word k.RightParen}) refl in
-    rw (p.1, p.2) (fails (behind l refl values.reads) c.args.end c.in_err-rest-2.field-0.0 (c.in_err-rest-2.ensures n))
-
 -- the values by their own list
 values_are : (left : Tree (word k.LeftParen)) (values : Tree literal_list) (right : Tree (word k.RightParen)) → list_of (Both left (ungroup (Both values right))) ≡ literal_list_of values
 values_are left (Both first more) right = refl
@@ -39,6 +31,6 @@ pub returns : goal.returns
 returns c n =
     let left = c.in_ok-rest.ensures n in
     let values = c.in_ok-values.ensures n in
-    let right = c.in_ok-rest-2.ensures n in
     let l = at_same (behind (itself list) refl left.reads) (regrouped {a = line g.literal} {b = many (word k.Comma ▸ line g.literal)} {c = word k.RightParen}) refl in
-    done (behind l refl values.reads) right.tree right.reads (values_are left.tree values.tree right.tree ∙ values.value)
+    hands_on {p = word k.RightParen} (λ _. c.in_ok-values.values) list_of (λ r. r.0) (λ r. r.0) (λ r. r.1.now) c.args.end (behind l refl values.reads)
+    (λ right r e. values_are left.tree values.tree right ∙ values.value ∙ e) c.followed.result (c.followed.ensures n)

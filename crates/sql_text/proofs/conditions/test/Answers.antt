@@ -1,13 +1,12 @@
-use Rattle.std.proofs.Common.{ℕ, refl, sym, ap, ◌∙◌}
+use Rattle.std.proofs.Common.{refl, ap, ◌∙◌}
 use Rattle.std.proofs.lemmas.Result.{err_from_is_err_and}
 use Rattle.sql_text.specs.Kinds.{numbers}
 use Rattle.sql_text.specs.Grammar.{comparisons}
 use Rattle.sql_text.specs.declared.tree.Expr.{Expr}
 use Rattle.sql_text.specs.declared.tree.Op.{Op}
-use Rattle.sql_text.specs.declared.tree.Cond.TheVariants as condition
 use Rattle.sql_text.specs.Meaning.{tests, test_of, predicate_of, operand_of, op_of, compare}
 use Rattle.sql_text.proofs.Predicates.{compared, negated, in_turn, as_written, compare_is, predicate_is}
-use Rattle.sql_text.proofs.Leads.{itself, behind, at_same, at_left, at_right, done, hands_on, fails, fails_first, other_kinds, none_of}
+use Rattle.sql_text.proofs.Leads.{itself, behind, at_same, at_left, at_right, hands_on, fails_first, other_kinds, none_of}
 use Rattle.sql_text.proofs.conditions.test.Goals as goal
 
 pub returns-in_err-left : goal.returns-in_err-left
@@ -16,30 +15,16 @@ returns-in_err-left c n =
     let l0 = at_same (itself tests) as_written refl in
     rw (p.1, p.2) (fails_first l0 refl c.args.end c.in_err-left.field-0.0 (c.in_err-left.ensures n))
 
-pub returns-in_err-right-in-Some : goal.returns-in_err-right-in-Some
-returns-in_err-right-in-Some c n =
-    let p = err_from_is_err_and c.from_residual-in_err-right-in-Some.result c.from_residual-in_err-right-in-Some.ensures.1 in
-    let l0 = at_same (itself tests) as_written refl in
+pub returns-in-Some : goal.returns-in-Some
+returns-in-Some c n =
     let left = c.in_ok-left.ensures n in
-    let l1 = behind l0 refl left.reads in
+    let l1 = behind (at_same (itself tests) as_written refl) refl left.reads in
     let op = c.in-Some.ensures.some n in
-    let l2 = behind (at_left l1 (other_kinds negated (numbers comparisons) c.in-Some.ensures.begins refl refl)) refl op.reads in
-    rw (p.1, p.2) (fails l2 c.args.end c.in_err-right-in-Some.field-0.0 (c.in_err-right-in-Some.ensures n))
-
-pub returns-in_ok-right-in-Some : goal.returns-in_ok-right-in-Some
-returns-in_ok-right-in-Some c n =
-    let l0 = at_same (itself tests) as_written refl in
-    let left = c.in_ok-left.ensures n in
-    let l1 = behind l0 refl left.reads in
-    let op = c.in-Some.ensures.some n in
-    let l2 = behind (at_left l1 (other_kinds negated (numbers comparisons) c.in-Some.ensures.begins refl refl)) refl op.reads in
-    let right = c.in_ok-right-in-Some.ensures n in
-    done l2 right.tree right.reads
-    (compare_is left.tree op.tree right.tree
-    ∙ ap (λ (x : Expr). compare x (op_of op.tree) (operand_of right.tree)) left.value
-    ∙ ap (λ (x : Op). compare c.in_ok-left.left x (operand_of right.tree)) op.value
-    ∙ ap (λ (x : Expr). compare c.in_ok-left.left c.in-Some.op x) right.value
-    ∙ ap (λ (at : ℕ). condition.Compare at c.in-Some.op c.in_ok-left.left c.in_ok-right-in-Some.right) (sym c.at.ensures))
+    hands_on (λ right. compare c.in_ok-left.left c.in-Some.op (operand_of right)) test_of (λ r. r.0) (λ r. r.0) (λ r. r.1.now) c.args.end
+    (behind (at_left l1 (other_kinds negated (numbers comparisons) c.in-Some.ensures.begins refl refl)) refl op.reads)
+    (λ right r e. compare_is left.tree op.tree right
+    ∙ ap (λ (x : Expr). compare x (op_of op.tree) (operand_of right)) left.value
+    ∙ ap (λ (x : Op). compare c.in_ok-left.left x (operand_of right)) op.value ∙ e) c.compared.result (c.compared.ensures n)
 
 pub returns-in-None : goal.returns-in-None
 returns-in-None c n =

@@ -1,4 +1,4 @@
-use Rattle.std.proofs.Common.{refl, ap, ◌∙◌, [], ◌∷◌}
+use Rattle.std.proofs.Common.{refl, sym, ap, ◌∙◌, [], ◌∷◌}
 use Rattle.std.proofs.lemmas.Result.{err_from_is_err_and}
 use Rattle.sql_text.specs.declared.kinds.Kind.TheVariants as k
 use Rattle.sql_text.specs.Kinds.{code}
@@ -7,7 +7,7 @@ use Rattle.sql_text.specs.Grammar as g
 use Rattle.sql_text.specs.declared.tree.Alias.{Alias}
 use Rattle.sql_text.specs.Meaning.{named, alone, within}
 use Rattle.sql_text.proofs.Choices.{reads_none}
-use Rattle.sql_text.proofs.Leads.{at_line, at_some, behind, done, fails, fails_first, reads_kind, begun, none_of}
+use Rattle.sql_text.proofs.Leads.{at_line, at_some, behind, done, fails, fails_first, reads_kind, begun, none_of, read_ok, read_err}
 use Rattle.sql_text.proofs.operands.colref.Goals as goal
 
 abbrev dotted : Part
@@ -18,22 +18,22 @@ returns-in_err-first c n =
     let p = err_from_is_err_and c.from_residual.result c.from_residual.ensures.1 in
     rw (p.1, p.2) (fails_first (at_line g.colref) refl c.args.end c.in_err-first.field-0.0 (c.in_err-first.ensures n))
 
-pub returns-in_err-column-in-Some : goal.returns-in_err-column-in-Some
-returns-in_err-column-in-Some c n =
-    let p = err_from_is_err_and c.from_residual-in_err-column-in-Some.result c.from_residual-in_err-column-in-Some.ensures.1 in
+pub returns-in_err-first-in-Some : goal.returns-in_err-first-in-Some
+returns-in_err-first-in-Some c n =
+    let p = err_from_is_err_and c.from_residual-in_err-first-in-Some.result c.from_residual-in_err-first-in-Some.ensures.1 in
     let first = c.in_ok-first.ensures n in
     let dot = c.in-Some.ensures.some in
     let l = behind (at_some (behind (at_line g.colref) refl first.reads) (begun dot)) refl (reads_kind dot) in
-    rw (p.1, p.2) (fails l c.args.end c.in_err-column-in-Some.field-0.0 (c.in_err-column-in-Some.ensures n))
+    rw (p.1, p.2) (fails l c.args.end c.in_err-first-in-Some.field-0.0 (read_err named (λ r. r.0) (λ r. r.1.now) _ _ c.args.end c.in_err-first-in-Some.ensures (c.name-in-Some.ensures n)))
 
-pub returns-in_ok-column-in-Some : goal.returns-in_ok-column-in-Some
-returns-in_ok-column-in-Some c n =
+pub returns-in_ok-first-in-Some : goal.returns-in_ok-first-in-Some
+returns-in_ok-first-in-Some c n =
     let first = c.in_ok-first.ensures n in
     let dot = c.in-Some.ensures.some in
-    let column = c.in_ok-column-in-Some.ensures n in
+    let column = read_ok named (λ r. r.0) (λ r. r.1.now) c.args.end c.in_ok-first-in-Some.ensures.0 (c.name-in-Some.ensures n) in
     let l = behind (at_some (behind (at_line g.colref) refl first.reads) (begun dot)) refl (reads_kind dot) in
     done l column.tree column.reads
-    (ap (λ (x : Alias). within x (named column.tree)) first.value ∙ ap (λ (x : Alias). within c.in_ok-first.first x) column.value)
+    (ap (λ (x : Alias). within x (named column.tree)) (first.value ∙ sym c.in_ok-first-in-Some.ensures.1) ∙ ap (λ (x : Alias). within c.in_ok-first-in-Some.first x) column.value)
 
 pub returns-in-None : goal.returns-in-None
 returns-in-None c n =

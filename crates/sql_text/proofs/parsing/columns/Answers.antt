@@ -1,34 +1,33 @@
-use Rattle.std.proofs.Common.{refl, sym, ◌∙◌}
+use Rattle.std.proofs.Common.{length, arith, refl, ap, [], ◌∷◌}
 use Rattle.std.proofs.lemmas.Result.{err_from_is_err_and}
-use Rattle.sql_text.specs.declared.kinds.Kind.TheVariants as k
-use Rattle.sql_text.specs.Grammar.{Part, Tree, token, word, many, opt, level, line, name, names, types, comparisons, magnitudes, None, Left, Right, Both, In, By, ◌▸◌, ◌∣◌}
-use Rattle.sql_text.specs.Grammar as g
-use Rattle.sql_text.specs.Meaning.{more_columns_of}
-use Rattle.sql_text.proofs.Loops.{begun_with}
-use Rattle.sql_text.proofs.Leads.{itself, behind, done, fails, fails_first}
+use Rattle.sql_text.specs.Meaning.{column_list_of, column_of, more_columns_of}
+use Rattle.sql_text.proofs.Leads.{shorter, read_ok, append_err}
+use Rattle.sql_text.proofs.Loops.{awaits_first, awaits_next, goes_end, goes_append}
 use Rattle.sql_text.proofs.parsing.columns.Goals as goal
 
-abbrev whole : Part
-whole = line g.column ▸ many (word k.Comma ▸ line g.column)
-
-pub returns-in_err-first : goal.returns-in_err-first
-returns-in_err-first c n =
-    let p = err_from_is_err_and c.from_residual.result c.from_residual.ensures.1 in
-    let l0 = itself whole in
-    rw (p.1, p.2) (fails_first l0 refl c.args.end c.in_err-first.field-0.0 (c.in_err-first.ensures n))
+pub loop-all-init : goal.loop-all-init
+loop-all-init c n = rw c.new-found.ensures.items (awaits_first column_list_of (λ d. column_of d ∷ []) more_columns_of n c.args.tokens.now refl (λ d m. refl))
 
 pub returns-in_err-all : goal.returns-in_err-all
 returns-in_err-all c n =
-    let p = err_from_is_err_and c.from_residual-in_err-all.result c.from_residual-in_err-all.ensures.1 in
-    let l0 = itself whole in
-    let first = c.in_ok-first.ensures n in
-    let l1 = behind l0 refl first.reads in
-    rw (p.1, p.2) (fails l1 c.args.end c.in_err-all.field-0.0 (c.in_err-all.ensures n))
+    let p = err_from_is_err_and c.from_residual.result c.from_residual.ensures.1 in
+    rw (p.1, p.2) ((c.loop-all.invariant n).fails c.args.end c.in_err-all.field-0.0 (append_err column_of (λ r. r.0) (λ r. r.1.now) _ _ c.args.end c.in_err-all.ensures (c.column.ensures n)))
 
-pub returns : goal.returns
-returns c n =
-    let l0 = itself whole in
-    let first = c.in_ok-first.ensures n in
-    let l1 = behind l0 refl first.reads in
-    let all = c.in_ok-all.ensures n in
-    done l1 all.tree all.reads (begun_with first.value c.new-found.ensures.items c.in_ok-push.ensures.items (more_columns_of all.tree) ∙ all.value ∙ sym c.from_vec.ensures)
+pub loop-all-smaller : goal.loop-all-smaller
+loop-all-smaller c =
+    let next = read_ok column_of (λ r. r.0) (λ r. r.1.now) c.args.end c.in_ok-all.ensures.1 (c.column.ensures 0) in
+    let short = shorter next.reads in
+    let longer = ap length c.in-Some.ensures.some.splits in
+    omega arith
+
+pub loop-all-preserved : goal.loop-all-preserved
+loop-all-preserved c n =
+    let next = read_ok column_of (λ r. r.0) (λ r. r.1.now) c.args.end c.in_ok-all.ensures.1 (c.column.ensures n) in
+    let read = (c.loop-all.invariant n).read next.tree _ next.reads in
+    awaits_next (λ d. column_of d ∷ []) refl (λ s d m. refl) (goes_append _ next.value c.in_ok-all.ensures.2 read) c.in-Some.ensures.some
+
+pub returns-in-None : goal.returns-in-None
+returns-in-None c n =
+    let next = read_ok column_of (λ r. r.0) (λ r. r.1.now) c.args.end c.in_ok-all.ensures.1 (c.column.ensures n) in
+    let read = (c.loop-all.invariant n).read next.tree _ next.reads in
+    rw c.from_vec.ensures (goes_end refl (goes_append _ next.value c.in_ok-all.ensures.2 read) c.in-None.ensures.none)

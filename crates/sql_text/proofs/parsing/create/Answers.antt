@@ -1,4 +1,4 @@
-use Rattle.std.proofs.Common.{◌≡◌, refl, ap, ◌∙◌, List}
+use Rattle.std.proofs.Common.{◌≡◌, refl, sym, ap, ◌∙◌, List}
 use Rattle.std.proofs.lemmas.Result.{err_from_is_err_and}
 use Rattle.sql_text.specs.declared.kinds.Kind.TheVariants as k
 use Rattle.sql_text.specs.Grammar.{Part, Tree, token, word, many, opt, level, line, name, names, types, comparisons, magnitudes, None, Left, Right, Both, In, By, ◌▸◌, ◌∣◌}
@@ -7,7 +7,7 @@ use Rattle.sql_text.specs.declared.tree.Alias.{Alias}
 use Rattle.sql_text.specs.declared.tree.ColumnItem.{ColumnItem}
 use Rattle.sql_text.specs.Meaning.{create_of, created, named, column_list_of}
 use Rattle.sql_text.proofs.Same.{regrouped, ungroup}
-use Rattle.sql_text.proofs.Leads.{at_line, at_same, behind, done, fails, fails_first}
+use Rattle.sql_text.proofs.Leads.{at_line, at_same, behind, done, fails, fails_first, read_ok, read_err}
 use Rattle.sql_text.proofs.parsing.create.Goals as goal
 
 abbrev more_columns : Part
@@ -42,9 +42,9 @@ returns-in_err-table c n =
     let l2 = behind l1 refl table_word.reads in
     rw (p.1, p.2) (fails_first l2 refl c.args.end c.in_err-table.field-0.0 (c.in_err-table.ensures n))
 
-pub returns-in_err-rest-3 : goal.returns-in_err-rest-3
-returns-in_err-rest-3 c n =
-    let p = err_from_is_err_and c.from_residual-in_err-rest-3.result c.from_residual-in_err-rest-3.ensures.1 in
+pub returns-in_err-table-2 : goal.returns-in_err-table-2
+returns-in_err-table-2 c n =
+    let p = err_from_is_err_and c.from_residual-in_err-table-2.result c.from_residual-in_err-table-2.ensures.1 in
     let l0 = at_line g.create in
     let create = c.in_ok-rest.ensures n in
     let l1 = behind l0 refl create.reads in
@@ -52,11 +52,11 @@ returns-in_err-rest-3 c n =
     let l2 = behind l1 refl table_word.reads in
     let table = c.in_ok-table.ensures n in
     let l3 = behind l2 refl table.reads in
-    rw (p.1, p.2) (fails_first l3 refl c.args.end c.in_err-rest-3.field-0.0 (c.in_err-rest-3.ensures n))
+    rw (p.1, p.2) (fails_first l3 refl c.args.end c.in_err-table-2.field-0.0 (c.in_err-table-2.ensures n))
 
-pub returns-in_err-columns : goal.returns-in_err-columns
-returns-in_err-columns c n =
-    let p = err_from_is_err_and c.from_residual-in_err-columns.result c.from_residual-in_err-columns.ensures.1 in
+pub returns-in_err-found : goal.returns-in_err-found
+returns-in_err-found c n =
+    let p = err_from_is_err_and c.from_residual-in_err-found.result c.from_residual-in_err-found.ensures.1 in
     let l0 = at_line g.create in
     let create = c.in_ok-rest.ensures n in
     let l1 = behind l0 refl create.reads in
@@ -64,13 +64,13 @@ returns-in_err-columns c n =
     let l2 = behind l1 refl table_word.reads in
     let table = c.in_ok-table.ensures n in
     let l3 = behind l2 refl table.reads in
-    let left = c.in_ok-rest-3.ensures n in
+    let left = c.in_ok-table-2.ensures n in
     let l4 = at_same (behind l3 refl left.reads) (regrouped {a = line g.column} {b = more_columns} {c = word k.RightParen ▸ word k.Semicolon}) refl in
-    rw (p.1, p.2) (fails_first l4 refl c.args.end c.in_err-columns.field-0.0 (c.in_err-columns.ensures n))
+    rw (p.1, p.2) (fails_first l4 refl c.args.end c.in_err-found.field-0.0 (read_err column_list_of (λ r. r.0) (λ r. r.1.now) _ _ c.args.end c.in_err-found.ensures (c.columns.ensures n)))
 
-pub returns-in_err-rest-4 : goal.returns-in_err-rest-4
-returns-in_err-rest-4 c n =
-    let p = err_from_is_err_and c.from_residual-in_err-rest-4.result c.from_residual-in_err-rest-4.ensures.1 in
+pub returns-in_err-found-2 : goal.returns-in_err-found-2
+returns-in_err-found-2 c n =
+    let p = err_from_is_err_and c.from_residual-in_err-found-2.result c.from_residual-in_err-found-2.ensures.1 in
     let l0 = at_line g.create in
     let create = c.in_ok-rest.ensures n in
     let l1 = behind l0 refl create.reads in
@@ -78,15 +78,15 @@ returns-in_err-rest-4 c n =
     let l2 = behind l1 refl table_word.reads in
     let table = c.in_ok-table.ensures n in
     let l3 = behind l2 refl table.reads in
-    let left = c.in_ok-rest-3.ensures n in
+    let left = c.in_ok-table-2.ensures n in
     let l4 = at_same (behind l3 refl left.reads) (regrouped {a = line g.column} {b = more_columns} {c = word k.RightParen ▸ word k.Semicolon}) refl in
-    let columns = c.in_ok-columns.ensures n in
+    let columns = read_ok column_list_of (λ r. r.0) (λ r. r.1.now) c.args.end c.in_ok-found.ensures.0 (c.columns.ensures n) in
     let l5 = behind l4 refl columns.reads in
-    rw (p.1, p.2) (fails_first l5 refl c.args.end c.in_err-rest-4.field-0.0 (c.in_err-rest-4.ensures n))
+    rw (p.1, p.2) (fails_first l5 refl c.args.end c.in_err-found-2.field-0.0 (c.in_err-found-2.ensures n))
 
-pub returns-in_err-rest-5 : goal.returns-in_err-rest-5
-returns-in_err-rest-5 c n =
-    let p = err_from_is_err_and c.from_residual-in_err-rest-5.result c.from_residual-in_err-rest-5.ensures.1 in
+pub returns-in_err-table-3 : goal.returns-in_err-table-3
+returns-in_err-table-3 c n =
+    let p = err_from_is_err_and c.from_residual-in_err-table-3.result c.from_residual-in_err-table-3.ensures.1 in
     let l0 = at_line g.create in
     let create = c.in_ok-rest.ensures n in
     let l1 = behind l0 refl create.reads in
@@ -94,13 +94,13 @@ returns-in_err-rest-5 c n =
     let l2 = behind l1 refl table_word.reads in
     let table = c.in_ok-table.ensures n in
     let l3 = behind l2 refl table.reads in
-    let left = c.in_ok-rest-3.ensures n in
+    let left = c.in_ok-table-2.ensures n in
     let l4 = at_same (behind l3 refl left.reads) (regrouped {a = line g.column} {b = more_columns} {c = word k.RightParen ▸ word k.Semicolon}) refl in
-    let columns = c.in_ok-columns.ensures n in
+    let columns = read_ok column_list_of (λ r. r.0) (λ r. r.1.now) c.args.end c.in_ok-found.ensures.0 (c.columns.ensures n) in
     let l5 = behind l4 refl columns.reads in
-    let right = c.in_ok-rest-4.ensures n in
+    let right = c.in_ok-found-2.ensures n in
     let l6 = behind l5 refl right.reads in
-    rw (p.1, p.2) (fails l6 c.args.end c.in_err-rest-5.field-0.0 (c.in_err-rest-5.ensures n))
+    rw (p.1, p.2) (fails l6 c.args.end c.in_err-table-3.field-0.0 (c.in_err-table-3.ensures n))
 
 pub returns : goal.returns
 returns c n =
@@ -111,13 +111,14 @@ returns c n =
     let l2 = behind l1 refl table_word.reads in
     let table = c.in_ok-table.ensures n in
     let l3 = behind l2 refl table.reads in
-    let left = c.in_ok-rest-3.ensures n in
+    let left = c.in_ok-table-2.ensures n in
     let l4 = at_same (behind l3 refl left.reads) (regrouped {a = line g.column} {b = more_columns} {c = word k.RightParen ▸ word k.Semicolon}) refl in
-    let columns = c.in_ok-columns.ensures n in
+    let columns = read_ok column_list_of (λ r. r.0) (λ r. r.1.now) c.args.end c.in_ok-found.ensures.0 (c.columns.ensures n) in
     let l5 = behind l4 refl columns.reads in
-    let right = c.in_ok-rest-4.ensures n in
+    let right = c.in_ok-found-2.ensures n in
     let l6 = behind l5 refl right.reads in
-    let semicolon = c.in_ok-rest-5.ensures n in
+    let semicolon = c.in_ok-table-3.ensures n in
     done l6 semicolon.tree semicolon.reads (create_is create.tree table_word.tree table.tree left.tree columns.tree right.tree semicolon.tree
-    ∙ ap (λ (x : Alias). created x (column_list_of columns.tree)) table.value
-    ∙ ap (λ (xs : List ColumnItem). created c.in_ok-table.table xs) columns.value)
+    ∙ ap (λ (x : Alias). created x (column_list_of columns.tree)) (table.value ∙ left.value ∙ sym c.in_ok-found.ensures.1)
+    ∙ ap (λ (xs : List ColumnItem). created c.in_ok-found.found.0 xs) columns.value
+    ∙ ap (λ (x : Alias × List ColumnItem). created x.0 x.1) (right.value ∙ semicolon.value))

@@ -3,29 +3,30 @@ use Rattle.std.proofs.lemmas.Result.{err_from_is_err_and}
 use Rattle.sql_text.specs.declared.kinds.Kind.TheVariants as k
 use Rattle.sql_text.specs.Kinds.{code}
 use Rattle.sql_text.proofs.Loops.{grows_start, grows_more, grows_end, shorter_by}
-use Rattle.sql_text.proofs.Leads.{fails_item, none_of}
+use Rattle.sql_text.proofs.Leads.{fails_item, none_of, read_ok, append_err}
 use Rattle.sql_text.specs.declared.tree.Source.{Source}
-use Rattle.sql_text.specs.Meaning.{join, joins_of}
+use Rattle.sql_text.specs.Meaning.{join, join_of, joins_of}
 use Rattle.sql_text.proofs.sources.joins.Goals as goal
 
 pub loop-alloc-init : goal.loop-alloc-init
 loop-alloc-init c = grows_start joins_of c.args.levels c.args.tokens.now c.args.found.items
 
-pub returns-in_err-next : goal.returns-in_err-next
-returns-in_err-next c =
+pub returns-in_err-all : goal.returns-in_err-all
+returns-in_err-all c =
     let p = err_from_is_err_and c.from_residual.result c.from_residual.ensures.1 in
-    rw (p.1, p.2) (fails_item c.loop-alloc.invariant.leads refl (c.begins_join.ensures.0 c.loop-alloc-test.true) c.args.end c.in_err-next.field-0.0 (c.in_err-next.ensures))
+    rw (p.1, p.2) (fails_item c.loop-alloc.invariant.leads refl (c.begins_join.ensures.0 c.loop-alloc-test.true) c.args.end c.in_err-all.field-0.0
+    (append_err join_of (λ r. r.0) (λ r. r.1.now) _ _ c.args.end c.in_err-all.ensures c.join.ensures))
 
 pub loop-alloc-smaller : goal.loop-alloc-smaller
 loop-alloc-smaller c =
-    let next = c.in_ok-next.ensures in
+    let next = read_ok join_of (λ r. r.0) (λ r. r.1.now) c.args.end c.in_ok-all.ensures.1 c.join.ensures in
     shorter_by refl next.reads
 
 pub loop-alloc-preserved : goal.loop-alloc-preserved
 loop-alloc-preserved c =
-    let next = c.in_ok-next.ensures in
-    rw c.in_ok-push.ensures.items
-    (grows_more (c.in_ok-next.next ∷ []) refl (c.begins_join.ensures.0 c.loop-alloc-test.true) (λ m. ap (λ (x : Source). x ∷ joins_of m) next.value) c.loop-alloc.invariant next.reads)
+    let next = read_ok join_of (λ r. r.0) (λ r. r.1.now) c.args.end c.in_ok-all.ensures.1 c.join.ensures in
+    rw c.in_ok-all.ensures.2
+    (grows_more (c.in_ok-all.ensures.0 ∷ []) refl (c.begins_join.ensures.0 c.loop-alloc-test.true) (λ m. ap (λ (x : Source). x ∷ joins_of m) next.value) c.loop-alloc.invariant next.reads)
 
 pub returns : goal.returns
 returns c = grows_end refl c.loop-alloc.invariant (none_of join (code k.Inner ∷ code k.Join ∷ []) refl refl (λ h. absurd (let a = c.begins_join.ensures.1 h in let b = c.loop-alloc-test.false in cc)))

@@ -1,4 +1,4 @@
-use Rattle.std.proofs.Common.{◌≡◌, refl, ap, ◌∙◌, List, Option}
+use Rattle.std.proofs.Common.{◌≡◌, refl, sym, ap, ◌∙◌, List, Option}
 use Rattle.std.proofs.lemmas.Result.{err_from_is_err_and}
 use Rattle.sql_text.specs.declared.kinds.Kind.TheVariants as k
 use Rattle.sql_text.specs.Grammar.{Part, Tree, token, word, many, opt, level, line, name, names, types, comparisons, magnitudes, None, Left, Right, Both, In, By, ◌▸◌, ◌∣◌}
@@ -8,7 +8,7 @@ use Rattle.sql_text.specs.declared.tree.Items.{Items}
 use Rattle.sql_text.specs.declared.tree.Source.{Source}
 use Rattle.sql_text.specs.Meaning.{select_of, selected, items_of, source_list_of, filter_of}
 use Rattle.sql_text.proofs.Same.{regrouped, ungroup}
-use Rattle.sql_text.proofs.Leads.{at_line, at_same, behind, done, fails, fails_first}
+use Rattle.sql_text.proofs.Leads.{at_line, at_same, behind, done, fails, fails_first, read_ok, read_err}
 use Rattle.sql_text.proofs.sources.select.Goals as goal
 
 abbrev more_sources : Part
@@ -36,55 +36,46 @@ returns-in_err-items c =
     let l1 = behind l0 refl keyword.reads in
     rw (p.1, p.2) (fails_first l1 refl c.args.end c.in_err-items.field-0.0 (c.in_err-items.ensures c.args.levels))
 
-pub returns-in_err-rest-2 : goal.returns-in_err-rest-2
-returns-in_err-rest-2 c =
-    let p = err_from_is_err_and c.from_residual-in_err-rest-2.result c.from_residual-in_err-rest-2.ensures.1 in
-    let l0 = at_line g.select in
+pub returns-in_err-items-2 : goal.returns-in_err-items-2
+returns-in_err-items-2 c =
+    let p = err_from_is_err_and c.from_residual-in_err-items-2.result c.from_residual-in_err-items-2.ensures.1 in
     let keyword = c.in_ok-rest.ensures c.args.levels in
-    let l1 = behind l0 refl keyword.reads in
     let items = c.in_ok-items.ensures c.args.levels in
-    let l2 = behind l1 refl items.reads in
-    rw (p.1, p.2) (fails_first l2 refl c.args.end c.in_err-rest-2.field-0.0 (c.in_err-rest-2.ensures c.args.levels))
+    let l2 = behind (behind (at_line g.select) refl keyword.reads) refl items.reads in
+    rw (p.1, p.2) (fails_first l2 refl c.args.end c.in_err-items-2.field-0.0 (c.in_err-items-2.ensures c.args.levels))
 
-pub returns-in_err-sources : goal.returns-in_err-sources
-returns-in_err-sources c =
-    let p = err_from_is_err_and c.from_residual-in_err-sources.result c.from_residual-in_err-sources.ensures.1 in
-    let l0 = at_line g.select in
+pub returns-in_err-found : goal.returns-in_err-found
+returns-in_err-found c =
+    let p = err_from_is_err_and c.from_residual-in_err-found.result c.from_residual-in_err-found.ensures.1 in
     let keyword = c.in_ok-rest.ensures c.args.levels in
-    let l1 = behind l0 refl keyword.reads in
     let items = c.in_ok-items.ensures c.args.levels in
-    let l2 = behind l1 refl items.reads in
-    let from_word = c.in_ok-rest-2.ensures c.args.levels in
+    let from_word = c.in_ok-items-2.ensures c.args.levels in
+    let l2 = behind (behind (at_line g.select) refl keyword.reads) refl items.reads in
     let l3 = at_same (behind l2 refl from_word.reads) (regrouped {a = line g.source} {b = more_sources} {c = filter_part}) refl in
-    rw (p.1, p.2) (fails_first l3 refl c.args.end c.in_err-sources.field-0.0 (c.in_err-sources.ensures))
+    rw (p.1, p.2) (fails_first l3 refl c.args.end c.in_err-found.field-0.0 (read_err source_list_of (λ r. r.0) (λ r. r.1.now) _ _ c.args.end c.in_err-found.ensures c.sources.ensures))
 
-pub returns-in_err-filter : goal.returns-in_err-filter
-returns-in_err-filter c =
-    let p = err_from_is_err_and c.from_residual-in_err-filter.result c.from_residual-in_err-filter.ensures.1 in
-    let l0 = at_line g.select in
+pub returns-in_err-items-3 : goal.returns-in_err-items-3
+returns-in_err-items-3 c =
+    let p = err_from_is_err_and c.from_residual-in_err-items-3.result c.from_residual-in_err-items-3.ensures.1 in
     let keyword = c.in_ok-rest.ensures c.args.levels in
-    let l1 = behind l0 refl keyword.reads in
     let items = c.in_ok-items.ensures c.args.levels in
-    let l2 = behind l1 refl items.reads in
-    let from_word = c.in_ok-rest-2.ensures c.args.levels in
+    let from_word = c.in_ok-items-2.ensures c.args.levels in
+    let sources = read_ok source_list_of (λ r. r.0) (λ r. r.1.now) c.args.end c.in_ok-found.ensures.0 c.sources.ensures in
+    let l2 = behind (behind (at_line g.select) refl keyword.reads) refl items.reads in
     let l3 = at_same (behind l2 refl from_word.reads) (regrouped {a = line g.source} {b = more_sources} {c = filter_part}) refl in
-    let sources = c.in_ok-sources.ensures in
-    let l4 = behind l3 refl sources.reads in
-    rw (p.1, p.2) (fails l4 c.args.end c.in_err-filter.field-0.0 (c.in_err-filter.ensures))
+    rw (p.1, p.2) (fails (behind l3 refl sources.reads) c.args.end c.in_err-items-3.field-0.0 (read_err filter_of (λ r. r.0) (λ r. r.1.now) _ _ c.args.end c.in_err-items-3.ensures c.filter.ensures))
 
 pub returns : goal.returns
 returns c =
-    let l0 = at_line g.select in
     let keyword = c.in_ok-rest.ensures c.args.levels in
-    let l1 = behind l0 refl keyword.reads in
     let items = c.in_ok-items.ensures c.args.levels in
-    let l2 = behind l1 refl items.reads in
-    let from_word = c.in_ok-rest-2.ensures c.args.levels in
+    let from_word = c.in_ok-items-2.ensures c.args.levels in
+    let sources = read_ok source_list_of (λ r. r.0) (λ r. r.1.now) c.args.end c.in_ok-found.ensures.0 c.sources.ensures in
+    let filter = read_ok filter_of (λ r. r.0) (λ r. r.1.now) c.args.end c.in_ok-items-3.ensures.0 c.filter.ensures in
+    let l2 = behind (behind (at_line g.select) refl keyword.reads) refl items.reads in
     let l3 = at_same (behind l2 refl from_word.reads) (regrouped {a = line g.source} {b = more_sources} {c = filter_part}) refl in
-    let sources = c.in_ok-sources.ensures in
-    let l4 = behind l3 refl sources.reads in
-    let filter = c.in_ok-filter.ensures in
-    done l4 filter.tree filter.reads (select_is keyword.tree items.tree from_word.tree sources.tree filter.tree
-    ∙ ap (λ (x : Items). selected x (source_list_of sources.tree) (filter_of filter.tree)) items.value
-    ∙ ap (λ (x : List Source). selected c.in_ok-items.items x (filter_of filter.tree)) sources.value
-    ∙ ap (λ (x : Option Cond). selected c.in_ok-items.items c.in_ok-sources.sources x) filter.value)
+    done (behind l3 refl sources.reads) filter.tree filter.reads (select_is keyword.tree items.tree from_word.tree sources.tree filter.tree
+    ∙ ap (λ (x : Items). selected x (source_list_of sources.tree) (filter_of filter.tree)) (items.value ∙ from_word.value ∙ sym c.in_ok-found.ensures.1)
+    ∙ ap (λ (x : List Source). selected c.in_ok-found.found.0 x (filter_of filter.tree)) sources.value
+    ∙ ap (λ (x : Items × List Source). selected x.0 x.1 (filter_of filter.tree)) (sym c.in_ok-items-3.ensures.1)
+    ∙ ap (λ (x : Option Cond). selected c.in_ok-items-3.items c.in_ok-items-3.sources x) filter.value)

@@ -1,35 +1,31 @@
-use Rattle.std.proofs.Common.{refl, sym, ap, ◌∙◌, ◌++◌, List}
+use Rattle.std.proofs.Common.{length, arith, refl, ap}
 use Rattle.std.proofs.lemmas.Result.{err_from_is_err_and}
-use Rattle.sql_text.specs.declared.kinds.Kind.TheVariants as k
-use Rattle.sql_text.specs.Grammar.{Part, Tree, token, word, many, opt, level, line, name, names, types, comparisons, magnitudes, None, Left, Right, Both, In, By, ◌▸◌, ◌∣◌}
-use Rattle.sql_text.specs.Grammar as g
-use Rattle.sql_text.specs.declared.tree.Source.{Source}
-use Rattle.sql_text.specs.Meaning.{source_of, more_sources_of}
-use Rattle.sql_text.proofs.Leads.{itself, behind, done, fails, fails_first}
+use Rattle.sql_text.specs.Meaning.{source_list_of, source_of, more_sources_of}
+use Rattle.sql_text.proofs.Leads.{shorter}
+use Rattle.sql_text.proofs.Loops.{awaits_first, awaits_next, goes_end, goes_is}
 use Rattle.sql_text.proofs.sources.sources.Goals as goal
 
-abbrev whole : Part
-whole = line g.source ▸ many (word k.Comma ▸ line g.source)
-
-pub returns-in_err-found : goal.returns-in_err-found
-returns-in_err-found c =
-    let p = err_from_is_err_and c.from_residual.result c.from_residual.ensures.1 in
-    let l0 = itself whole in
-    rw (p.1, p.2) (fails_first l0 refl c.args.end c.in_err-found.field-0.0 (c.in_err-found.ensures))
+pub loop-all-init : goal.loop-all-init
+loop-all-init c = rw c.new-found.ensures.items (awaits_first source_list_of source_of more_sources_of c.args.levels c.args.tokens.now refl (λ d m. refl))
 
 pub returns-in_err-all : goal.returns-in_err-all
 returns-in_err-all c =
-    let p = err_from_is_err_and c.from_residual-in_err-all.result c.from_residual-in_err-all.ensures.1 in
-    let l0 = itself whole in
-    let found = c.in_ok-found.ensures in
-    let l1 = behind l0 refl found.reads in
-    rw (p.1, p.2) (fails l1 c.args.end c.in_err-all.field-0.0 (c.in_err-all.ensures))
+    let p = err_from_is_err_and c.from_residual.result c.from_residual.ensures.1 in
+    rw (p.1, p.2) (c.loop-all.invariant.fails c.args.end c.in_err-all.field-0.0 c.in_err-all.ensures)
 
-pub returns : goal.returns
-returns c =
-    let l0 = itself whole in
-    let found = c.in_ok-found.ensures in
-    let l1 = behind l0 refl found.reads in
+pub loop-all-smaller : goal.loop-all-smaller
+loop-all-smaller c =
     let all = c.in_ok-all.ensures in
-    done l1 all.tree all.reads (ap (λ (xs : List Source). (xs ++ source_of found.tree) ++ more_sources_of all.tree) (sym c.new.ensures.items)
-    ∙ ap (λ (xs : List Source). xs ++ more_sources_of all.tree) found.value ∙ all.value ∙ sym c.from_vec.ensures)
+    let short = shorter all.reads in
+    let longer = ap length c.in-Some.ensures.some.splits in
+    omega arith
+
+pub loop-all-preserved : goal.loop-all-preserved
+loop-all-preserved c =
+    let all = c.in_ok-all.ensures in
+    awaits_next source_of refl (λ s d m. refl) (goes_is all.value (c.loop-all.invariant.read all.tree _ all.reads)) c.in-Some.ensures.some
+
+pub returns-in-None : goal.returns-in-None
+returns-in-None c =
+    let all = c.in_ok-all.ensures in
+    rw c.from_vec.ensures (goes_end refl (goes_is all.value (c.loop-all.invariant.read all.tree _ all.reads)) c.in-None.ensures.none)
