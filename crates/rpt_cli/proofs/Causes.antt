@@ -9,27 +9,29 @@ use Rattle.column_table.specs.Table.{Rows, types_of}
 use Rattle.column_table.specs.declared.declared.Decl.{Decl}
 use Rattle.csv_load.specs.FileTable.{file_table}
 use Rattle.script_rules.specs.declared.found.Fault.{Fault}
-use Rattle.binder.specs.Query.{BoundQuery, Query}
+use Rattle.bound_query.specs.Query.{BoundQuery, Query}
 use Rattle.binder.specs.Binding.{query_of}
 use Rattle.script_rules.specs.Faults.{refusal_of as script_refusal}
-use Rattle.binder.specs.Answer.{counts_of}
-use Rattle.join_laws.specs.PrefixJoin.{prefix_joins}
-use Rattle.join_laws.specs.Selected.{instance_of, selected_rows}
-use Rattle.rpt_base.specs.declared.limits.TheConstants.{MAX_ROWS}
-use Rattle.rpt_cli.specs.declared.refusal.Refusal.{Refusal}
-use Rattle.rpt_cli.specs.declared.refusal.Refusal.TheVariants.{Usage, ReadFault, TooLarge, Lex, Syntax, TooDeep, Bind, Cyclic, OrderNames, UnsafeOrder, Header, Ragged, BadField, NotUtf8, TooManyRows, RowsOverflow, WriteFault, Memory}
-use Rattle.rpt_cli.specs.declared.words.Command.{Command}
-use Rattle.rpt_cli.specs.Words.{command_of, table_file}
+use Rattle.bound_query.specs.Answer.{counts_of}
+use Rattle.rpt_base.specs.declared.filters.FilterKind.{FilterKind}
+use Rattle.rpt_base.specs.declared.limits.TheConstants.{MAX_ROWS, MAX_SCRIPT_BYTES}
+use Rattle.rpt_engine.specs.Joins.{overflow_of}
+use Rattle.rpt_engine.specs.declared.planning.Plan.{Plan}
+use Rattle.refusal_lines.specs.declared.refusal.Refusal.{Refusal}
+use Rattle.refusal_lines.specs.declared.refusal.Refusal.TheVariants.{Usage, ReadFault, TooLarge, Lex, Syntax, TooDeep, Bind, Cyclic, OrderNames, UnsafeOrder, Header, Ragged, BadField, NotUtf8, TooManyRows, RowsOverflow, WriteFault, Memory}
+use Rattle.command_words.specs.declared.words.Command.{Command}
+use Rattle.command_words.specs.Words.{command_of}
 use Rattle.rpt_cli.specs.Scripts.{IsScript}
 use Rattle.rpt_cli.specs.Course.{Answer, Course, Ends, Asks, Finds, Gives, Leads, goes_on}
-use Rattle.rpt_cli.specs.Matters.{Found, IsFound, Prepared}
+use Rattle.rpt_cli.specs.Matters.{Found, IsFound}
 use Rattle.rpt_cli.specs.Orders.{order_of}
-use Rattle.rpt_cli.specs.declared.words.Mode.{Mode}
-use Rattle.rpt_cli.specs.declared.words.Mode.TheVariants as mode
+use Rattle.command_words.specs.declared.words.Mode.{Mode}
+use Rattle.command_words.specs.declared.words.Mode.TheVariants as mode
 use Rattle.rpt_cli.proofs.PreparedFacts.{Refused, ByCycle, ByNames, ByPrefix, why-refused}
-use Rattle.rpt_cli.specs.Command.{answer_course, asks_within, bound_course, command_course, course, course_of, mode_course, overflow_of, query_or, script_course, table_or, tables_course, text_unless}
+use Rattle.rpt_cli.specs.Command.{answer_text, bytes_course, command_course, course, course_of, filter_of, join_course, mode_course, most_table_bytes, query_course, query_or, tables_course, unless_overflow}
+use Rattle.rpt_cli.specs.Tables.{table_file, table_or}
 use Rattle.rpt_cli.specs.Delivery.{Delivers}
-use Rattle.rpt_cli.specs.Message.{status_of}
+use Rattle.refusal_lines.specs.Message.{status_of}
 use Rattle.rpt_cli.specs.Outcome.{Answers}
 
 -- an answer over the contents of files: no usage, and no fault; and no refusal of an order's names where none is given
@@ -53,14 +55,15 @@ module _ (given : Option (List ℕ)) where
   either true x y p q = p
   either false x y p q = q
 
-  text-ends : (overflow : Option ℕ) (text : List ℕ) → IsOverContents given (text_unless overflow text)
-  text-ends None text = tt
-  text-ends (Some prefix) text = tt
+  overflow-ends : (overflow : Option ℕ) (next : Course) → EndsOverContents given next → EndsOverContents given (unless_overflow overflow next)
+  overflow-ends None next p = p
+  overflow-ends (Some prefix) next p = tt
 
-  answer-ends : (bound : BoundQuery) (order : Option (List ℕ)) (tables : List Rows) → EndsOverContents given (answer_course bound order tables)
-  answer-ends bound order tables =
+  join-ends : (filter : FilterKind) (bound : BoundQuery) (order : Option (List ℕ)) (tables : List Rows) (next : Plan → Course) → ((plan : Plan) → EndsOverContents given (next plan))
+      → EndsOverContents given (join_course filter bound order tables next)
+  join-ends filter bound order tables next p =
       either (nat_lt MAX_ROWS (sum (counts_of bound.query tables))) (Ends (Err TooManyRows)) _ tt
-      (λ e h. absurd h, λ plan. text-ends (overflow_of (prefix_joins (instance_of bound tables) (selected_rows bound tables) plan.order)) _)
+      (λ e h. absurd h, λ plan. overflow-ends (overflow_of filter bound tables plan) (next plan) (p plan))
 
   table-ends : (decl : Decl) (table : Result (List (List Value)) LoadError) (next : Rows → Course) → ((t : Rows) → EndsOverContents given (next t))
       → EndsOverContents given (goes_on (table_or decl table) next)
@@ -79,11 +82,11 @@ module _ (given : Option (List ℕ)) where
       either (nat_lt room (length bytes)) (Ends (Err (TooLarge (table_file folder decl.name)))) _ tt
       (table-ends decl (file_table MAX_ROWS decl.columns bytes) _ (λ t. tables-ends folder next (room - length bytes) (tables ++ t ∷ []) decls p))
 
-  mode-ends : (limit : ℕ) (mode : Mode) (folder : List ℕ) (query : Query) (prepared : Prepared) → EndsOverContents given (mode_course limit mode folder query prepared)
-  mode-ends limit mode.Run folder query prepared =
-      let bound : BoundQuery = record { query = query; known = prepared.known } in
-      tables-ends folder (answer_course bound prepared.order) limit [] query.tables (answer-ends bound prepared.order)
-  mode-ends limit mode.Check folder query prepared = (λ e h. absurd h, λ plan. tt)
+  mode-ends : (mode : Mode) (filter : FilterKind) (folder : List ℕ) (bound : BoundQuery) (order : Option (List ℕ)) → EndsOverContents given (mode_course mode filter folder bound order)
+  mode-ends mode.Run filter folder bound order =
+      tables-ends folder (λ tables. join_course filter bound order tables (λ plan. Ends (Ok (answer_text bound tables)))) most_table_bytes [] bound.query.tables
+      (λ tables. join-ends filter bound order tables (λ plan. Ends (Ok (answer_text bound tables))) (λ plan. tt))
+  mode-ends mode.Check filter folder bound order = (λ e h. absurd h, λ plan. tt)
 
   -- what is refused as no script is refused for what it is
   script-refusal : (bytes : List ℕ) (e : Refusal) → IsScript bytes (Err e) → IsOverContents given (Err e)
@@ -133,17 +136,20 @@ prepared-refusal query order force e (ByCycle best needed known are cyclic) = tt
 prepared-refusal query order force e (ByNames known are acyclic none) = order-given query order none
 prepared-refusal query order force e (ByPrefix prefix known are acyclic named is at) = tt
 
-read-ends : (limit : ℕ) (command : Command) (fault : Option Fault) (query : Query) → EndsOverContents command.order (goes_on (query_or fault query) (bound_course limit command))
-read-ends limit command None query = (
+query-ends : (command : Command) (query : Query) → EndsOverContents command.order (query_course command query)
+query-ends command query = (
   λ e h. prepared-refusal query command.order command.force e (why-refused query command.order command.force e h),
-  λ prepared. mode-ends command.order limit command.mode command.folder query prepared,
+  λ found. mode-ends command.order command.mode (filter_of command) command.folder (record { query = query; known = found.known }) found.order,
 )
-read-ends limit command (Some fault) query = tt
 
-command-ends : (limit most : ℕ) (command : Command) → EndsOverContents command.order (asks_within limit command.script (script_course most command))
-command-ends limit most command bytes =
-    either command.order (nat_lt limit (length bytes)) (Ends (Err (TooLarge command.script))) (script_course most command bytes) tt
-    (λ e h. script-refusal command.order bytes e h, λ script. read-ends most command (script_refusal script) (query_of script))
+read-ends : (command : Command) (fault : Option Fault) (query : Query) → EndsOverContents command.order (goes_on (query_or fault query) (query_course command))
+read-ends command None query = query-ends command query
+read-ends command (Some fault) query = tt
+
+command-ends : (command : Command) → EndsOverContents command.order (command_course command)
+command-ends command bytes =
+    either command.order (nat_lt MAX_SCRIPT_BYTES (length bytes)) (Ends (Err (TooLarge command.script))) (bytes_course bytes (query_course command)) tt
+    (λ e h. script-refusal command.order bytes e h, λ script. read-ends command (script_refusal script) (query_of script))
 
 -- the same of the words' course, which ends at once with a usage where the words are no command
 abbrev Tells : (List ℕ → ℕ) → (List ℕ → ℕ) → Option Command → Answer → Type 0
@@ -155,7 +161,7 @@ course-tells : (told : List ℕ → Option (List ℕ)) (before now : List ℕ �
 course-tells told before now command answer (inl memory) = inl memory
 course-tells told before now None answer (inr leads) = inr leads
 course-tells told before now (Some command) answer (inr leads) =
-    inr (Leads-tells command.order told before now (command_course command) answer (command-ends _ _ command) leads)
+    inr (Leads-tells command.order told before now (command_course command) answer (command-ends command) leads)
 
 -- what a status of an answer over contents tells
 pub record StatusOver (given : Option (List ℕ)) (status : ℕ) : Type 0 where

@@ -1,12 +1,14 @@
 -- Steps of a course.
-use Rattle.std.proofs.Common.{◌≡◌, ◌⊎◌, inl, inr, refl, ℕ, ◌≤◌, List, length, nat_lt, false, ap, subst, arith}
+use Rattle.std.proofs.Common.{◌≡◌, ◌⊎◌, inl, inr, refl, ℕ, suc, ◌<◌, ◌≤◌, List, length, nat_lt, true, false, ap, subst, arith}
+use Rattle.std.proofs.lemmas.Bool.{le-leb}
 use Rattle.std.specs.Prelude.{Bool, Option, Result, Ok, Err, MatchResult, if◌then◌else◌}
 use Rattle.rpt_outside.specs.Causes.{NeverFalls, Rose, Tells}
-use Rattle.rpt_cli.specs.declared.refusal.Refusal.{Refusal}
-use Rattle.rpt_cli.specs.declared.refusal.Refusal.TheVariants.{TooLarge, Memory}
+use Rattle.refusal_lines.specs.declared.refusal.Refusal.{Refusal}
+use Rattle.refusal_lines.specs.declared.refusal.Refusal.TheVariants.{ReadFault, TooLarge, Memory}
 use Rattle.rpt_cli.specs.Course.{Answer, Asks, Course, Ends, Finds, Gives, IsFoundAs, Leads}
 use Rattle.rpt_cli.specs.Matters.{Found, Matter}
 use Rattle.rpt_cli.specs.Command.{asks_within}
+use Rattle.rpt_cli.specs.Steps.{Passes}
 
 -- a course leads to the same answer since earlier
 Leads-earlier : (told : List ℕ → Option (List ℕ)) (before later now : List ℕ → ℕ) → NeverFalls before later → (course : Course) (answer : Answer)
@@ -32,7 +34,7 @@ within-limit limit name next bytes h =
     ap (λ (b : Bool). if b then Ends (Err (TooLarge name)) else next bytes) fits
 
 -- a file that was read within its limit is passed
-pub asks_within-Gives : (told held : List ℕ → Option (List ℕ)) (before later now : List ℕ → ℕ) (limit : ℕ) (name : List ℕ) (next : List ℕ → Course) (bytes : List ℕ) (answer : Answer)
+asks_within-Gives : (told held : List ℕ → Option (List ℕ)) (before later now : List ℕ → ℕ) (limit : ℕ) (name : List ℕ) (next : List ℕ → Course) (bytes : List ℕ) (answer : Answer)
     → held ≡ told → NeverFalls before later → Tells (told name) bytes → length bytes ≤ limit
     → Gives held later now (next bytes) answer → Gives told before now (asks_within limit name next) answer
 asks_within-Gives told held before later now limit name next bytes answer same falls tells room (inl memory) = inl memory
@@ -40,6 +42,24 @@ asks_within-Gives told held before later now limit name next bytes answer same f
     let here : Leads told later now (next bytes) answer = subst (λ (t : List ℕ → Option (List ℕ)). Leads t later now (next bytes) answer) same leads in
     let begun : Leads told before now (next bytes) answer = Leads-earlier told before later now falls (next bytes) answer here in
     inr (inr (bytes, tells, subst (λ (course : Course). Leads told before now course answer) (within-limit limit name next bytes room) begun))
+
+pub read-Passes : {F : Type 0} (contents : F → List ℕ → Option (List ℕ)) (faults : F → List ℕ → ℕ) (old new : F) (limit : ℕ) (name bytes : List ℕ)
+    → contents new ≡ contents old → NeverFalls (faults old) (faults new) → Tells (contents old name) bytes → length bytes ≤ limit
+    → Passes contents faults old new (asks_within limit name) bytes
+read-Passes contents faults old new limit name bytes same falls tells room = λ next end answer gives.
+    asks_within-Gives (contents old) (contents new) (faults old) (faults new) end limit name next bytes answer same falls tells room gives
+
+-- a file that can't be read ends the course, and so does one that is too large
+module _ (told : List ℕ → Option (List ℕ)) (before now : List ℕ → ℕ) (limit : ℕ) (name : List ℕ) (next : List ℕ → Course) (e : Refusal) where
+  pub fault-Gives : (e ≡ Memory) ⊎ (e ≡ ReadFault name) → Rose (before name) (now name) → Gives told before now (asks_within limit name next) (Err e)
+  fault-Gives (inl memory) rose = inl (ap Err memory)
+  fault-Gives (inr fault) rose = inr (inl (ap Err fault, rose))
+
+  pub large-Gives : (e ≡ Memory) ⊎ (e ≡ TooLarge name) → (bytes : List ℕ) × Tells (told name) bytes × (limit < length bytes) → Gives told before now (asks_within limit name next) (Err e)
+  large-Gives (inl memory) large = inl (ap Err memory)
+  large-Gives (inr is) large =
+      let past : nat_lt limit (length large.0) ≡ true = le-leb (suc limit) (length large.0) (let h : limit < length large.0 = large.2 in omega arith) in
+      inr (inr (large.0, large.1, rw past (ap Err is)))
 
 -- what was found is passed
 pub finds-Gives : (told : List ℕ → Option (List ℕ)) (before now : List ℕ → ℕ) (matter : Matter) (next : Found matter → Course) (x : Found matter) (answer : Answer)

@@ -1,14 +1,10 @@
-pub mod Causes
-pub mod Courses
-pub mod LineFacts
-pub mod Outcomes
-pub mod OrderFacts
-pub mod ScriptFacts
-pub mod SettingFacts
-pub mod PreparedFacts
-pub mod PlannedFacts
-pub mod Sinks
-pub mod TableFacts
-pub mod OverflowFacts
-pub mod AnsweredFacts
-pub mod RangeFacts
+mod Courses
+mod Causes
+mod Outcomes
+mod OrderFacts
+mod ScriptFacts
+mod PreparedFacts
+mod PlannedFacts
+mod TableFacts
+mod JoinFacts
+mod RangeFacts

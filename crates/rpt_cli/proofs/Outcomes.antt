@@ -3,11 +3,11 @@ use Rattle.std.proofs.Common.{◌≡◌, ◌⊎◌, inl, inr, ℕ, ◌+◌, ◌-
 use Rattle.std.specs.Prelude.{Option, Result, Ok, Err, IfSome, IsOk, IsOkAnd, MatchResult, is_ok, true, false, ⊤}
 use Rattle.std.specs.Io.KnownBytes.{Appends}
 use Rattle.rpt_outside.specs.Causes.{Rose, Tells}
-use Rattle.rpt_cli.specs.declared.refusal.Refusal.{Refusal}
-use Rattle.rpt_cli.specs.declared.refusal.Refusal.TheVariants.{Usage, ReadFault, TooLarge, Lex, Syntax, TooDeep, Bind, Cyclic, OrderNames, UnsafeOrder, Header, Ragged, BadField, NotUtf8, TooManyRows, RowsOverflow, WriteFault, Memory}
+use Rattle.refusal_lines.specs.declared.refusal.Refusal.{Refusal}
+use Rattle.refusal_lines.specs.declared.refusal.Refusal.TheVariants.{Usage, ReadFault, TooLarge, Lex, Syntax, TooDeep, Bind, Cyclic, OrderNames, UnsafeOrder, Header, Ragged, BadField, NotUtf8, TooManyRows, RowsOverflow, WriteFault, Memory}
 use Rattle.rpt_cli.specs.Course.{Answer, Course, Ends, Asks, Finds, Leads, Gives, IsOutcome, NoneRose}
 use Rattle.rpt_cli.specs.Matters.{Found}
-use Rattle.rpt_cli.specs.Message.{status_of}
+use Rattle.refusal_lines.specs.Message.{status_of}
 use Rattle.rpt_cli.specs.Delivery.{Delivers}
 use Rattle.rpt_cli.specs.Outcome.{Answers}
 

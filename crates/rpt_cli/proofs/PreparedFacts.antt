@@ -9,16 +9,15 @@ use Rattle.join_graph.specs.Weights.{weight_of}
 use Rattle.join_graph.proofs.WeightFacts.{one-best}
 use Rattle.largest_root.specs.Greedy.{IsCyclic}
 use Rattle.safe_subjoin.specs.SafeOrder.{IsFirstUnsafe}
-use Rattle.rpt_engine.specs.Prepared.{IsAllowed, IsUnprepared, IsUnsafeAt}
-use Rattle.rpt_engine.specs.declared.errors.PrepareError.{PrepareError}
-use Rattle.rpt_engine.specs.declared.errors.PrepareError.TheVariants as prepare_error
-use Rattle.rpt_cli.specs.Steps.{why_unprepared}
-use Rattle.binder.specs.Query.{Query, widths_of}
-use Rattle.rpt_cli.specs.declared.refusal.Refusal.{Refusal}
-use Rattle.rpt_cli.specs.declared.refusal.Refusal.TheVariants.{Usage, ReadFault, TooLarge, Lex, Syntax, TooDeep, Bind, Cyclic, OrderNames, UnsafeOrder, Header, Ragged, BadField, NotUtf8, TooManyRows, RowsOverflow, WriteFault, Memory}
-use Rattle.rpt_cli.specs.Course.{IsFoundAs}
+use Rattle.rpt_engine.specs.Prepared.{IsAllowed, IsUnsafeAt}
+use Rattle.rpt_cli.specs.Steps.{PassesUnasked, StopsUnasked}
+use Rattle.bound_query.specs.Query.{Query, widths_of}
+use Rattle.refusal_lines.specs.declared.refusal.Refusal.{Refusal}
+use Rattle.refusal_lines.specs.declared.refusal.Refusal.TheVariants.{Usage, ReadFault, TooLarge, Lex, Syntax, TooDeep, Bind, Cyclic, OrderNames, UnsafeOrder, Header, Ragged, BadField, NotUtf8, TooManyRows, RowsOverflow, WriteFault, Memory}
+use Rattle.rpt_cli.specs.Course.{Finds, IsFoundAs}
 use Rattle.rpt_cli.specs.Matters.{AreKnown, IsPrepared, Prepared, Preparing}
 use Rattle.rpt_cli.specs.Orders.{order_of}
+use Rattle.rpt_cli.proofs.Courses.{finds-Gives, refuses-Gives}
 
 -- why a query isn't prepared
 pub data Refused (query : Query) (order : Option (List ℕ)) (force : Bool) : Refusal → Type 0 where
@@ -122,32 +121,15 @@ module _ (query : Query) (order : Option (List ℕ)) (force : Bool) where
   prepared-only (Err e) (Ok b) h k = absurd (not-refused b e k (why-refused query order force e h))
   prepared-only (Err e) (Err f) h k = ap Err (one-refusal e f (why-refused query order force e h) (why-refused query order force f k))
 
--- where no order was tried, an error of the engine is a refusal of the query
-pub unprepared-first : (query : Query) (known : QueryVariables) (text : Option (List ℕ)) (force : Bool) (e : PrepareError) → AreKnown query known → IsUnprepared known.sets None force e
-    → (why_unprepared e ≡ Memory) ⊎ IsPrepared query text force (Err (why_unprepared e))
-unprepared-first query known text force (prepare_error.Cyclic best needed) are h = inr (known, are, h)
-unprepared-first query known text force (prepare_error.UnsafeOrder prefix) are h = absurd h.1
-unprepared-first query known text force prepare_error.Memory are h = inl refl
+-- a query that is prepared is passed, and one that is refused ends the course
+module _ (query : Query) (order : Option (List ℕ)) (force : Bool) where
+  pub prepared-Passes : (found : Prepared) → IsPrepared query order force (Ok found) → PassesUnasked (Finds (Preparing query order force)) found
+  prepared-Passes found is = λ told before end next answer gives.
+      finds-Gives told before end (Preparing query order force) next found answer (is, λ other other_is. prepared-only query order force (Ok found) other is other_is) gives
 
--- and so it is where the order that was tried is the one that is given
-pub unprepared-then : (query : Query) (known : QueryVariables) (text named : Option (List ℕ)) (force : Bool) (e : PrepareError) → AreKnown query known → order_of query text ≡ Some named
-    → IsUnprepared known.sets named force e → (why_unprepared e ≡ Memory) ⊎ IsPrepared query text force (Err (why_unprepared e))
-unprepared-then query known text named force (prepare_error.Cyclic best needed) are is h = inr (known, are, h)
-unprepared-then query known text named force (prepare_error.UnsafeOrder prefix) are is h = inr (known, are, h.0, named, is, h.1)
-unprepared-then query known text named force prepare_error.Memory are is h = inl refl
-
--- names that are no order are refused, where there is a join list
-pub unnamed : (query : Query) (known : QueryVariables) (text : Option (List ℕ)) (force : Bool) (e : Refusal) → AreKnown query known → IsAcyclic known.sets
-    → (e ≡ Memory) ⊎ ((e ≡ OrderNames) × (order_of query text ≡ None)) → (e ≡ Memory) ⊎ IsPrepared query text force (Err e)
-unnamed query known text force e are acyclic (inl memory) = inl memory
-unnamed query known text force e are acyclic (inr (is, none)) =
-    inr (subst (λ (r : Refusal). IsPrepared query text force (Err r)) (sym is) (known, are, acyclic, none))
-
--- what is found is the only thing to be found, and so is a refusal
-pub prepared-found : (query : Query) (order : Option (List ℕ)) (force : Bool) (found : Prepared) → IsPrepared query order force (Ok found) → IsFoundAs (Preparing query order force) (Ok found)
-prepared-found query order force found h = (h, λ other other_is. prepared-only query order force (Ok found) other h other_is)
-
-pub prepared-refused : (query : Query) (order : Option (List ℕ)) (force : Bool) (e : Refusal) → (e ≡ Memory) ⊎ IsPrepared query order force (Err e)
-    → (e ≡ Memory) ⊎ IsFoundAs (Preparing query order force) (Err e)
-prepared-refused query order force e (inl memory) = inl memory
-prepared-refused query order force e (inr h) = inr (h, λ other other_is. prepared-only query order force (Err e) other h other_is)
+  pub prepared-Stops : (e : Refusal) → (e ≡ Memory) ⊎ IsPrepared query order force (Err e) → StopsUnasked (Finds (Preparing query order force)) e
+  prepared-Stops e is = λ told before end next. refuses-Gives told before end (Preparing query order force) next e (found is)
+    where
+      found : (e ≡ Memory) ⊎ IsPrepared query order force (Err e) → (e ≡ Memory) ⊎ IsFoundAs (Preparing query order force) (Err e)
+      found (inl memory) = inl memory
+      found (inr h) = inr (h, λ other other_is. prepared-only query order force (Err e) other h other_is)

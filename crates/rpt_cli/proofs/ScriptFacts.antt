@@ -1,19 +1,22 @@
 -- That a script's bytes are read as one thing.
-use Rattle.std.proofs.Common.{◌≡◌, ◌⊎◌, ◌∙◌, inl, inr, ◌≤◌, ap, sym, subst, List, [], ◌∷◌, ℕ, length, arith}
-use Rattle.std.specs.Prelude.{Result, Ok, Err}
+use Rattle.std.proofs.Common.{◌≡◌, ◌⊎◌, ◌∙◌, inl, inr, ap, sym, subst, List, ℕ, length}
+use Rattle.std.specs.Prelude.{IfErr, IfOk, Option, Result, Ok, Err}
 use Rattle.sql_lex.specs.declared.tokens.Token.{Token}
 use Rattle.sql_lex.specs.declared.tokens.LexError.{LexError}
 use Rattle.sql_lex.specs.declared.tokens.LexError.TheVariants as lex_error
 use Rattle.sql_lex.specs.Tokens.{IsBadAt, IsTokenList}
 use Rattle.sql_text.specs.declared.tree.Script.{Script}
-use Rattle.sql_text.specs.declared.tree.Source.{Source}
-use Rattle.sql_text.specs.Formed.{IsFrom}
 use Rattle.sql_text.specs.declared.errors.ParseError.{ParseError}
 use Rattle.sql_text.specs.declared.errors.ParseError.TheVariants as parse_error
 use Rattle.sql_text.specs.Sentence.{IsReading, IsSentence, IsSyntaxError, IsTooDeep}
-use Rattle.rpt_cli.specs.declared.refusal.Refusal.{Refusal}
-use Rattle.rpt_cli.specs.declared.refusal.Refusal.TheVariants.{Usage, ReadFault, TooLarge, Lex, Syntax, TooDeep, Bind, Cyclic, OrderNames, UnsafeOrder, Header, Ragged, BadField, NotUtf8, TooManyRows, RowsOverflow, WriteFault, Memory}
+use Rattle.refusal_lines.specs.declared.refusal.Refusal.{Refusal}
+use Rattle.refusal_lines.specs.declared.refusal.Refusal.TheVariants.{Usage, ReadFault, TooLarge, Lex, Syntax, TooDeep, Bind, Cyclic, OrderNames, UnsafeOrder, Header, Ragged, BadField, NotUtf8, TooManyRows, RowsOverflow, WriteFault, Memory}
+use Rattle.bound_query.specs.Query.{BoundQuery, Query}
+use Rattle.rpt_base.specs.declared.limits.TheConstants.{MAX_SCRIPT_BYTES}
+use Rattle.rpt_cli.specs.Command.{asks_within, bytes_course, script_course}
+use Rattle.rpt_cli.specs.Course.{Gives}
 use Rattle.rpt_cli.specs.Scripts.{IsScript}
+use Rattle.rpt_cli.specs.Steps.{Passes, PassesUnasked, Stops, StopsUnasked}
 
 -- a refusal of a reader as one of the program
 abbrev pub refusal_of : ParseError → Refusal
@@ -102,7 +105,24 @@ bad-only-as bytes e offset is none same said h = bad-only bytes offset (λ token
     by other (inl m) = cc
     by other (inr a) = let same : lex_error.At offset ≡ lex_error.At other = sym is ∙ a in cc
 
--- a script that is well formed has a source
-pub some-source : (sources : List Source) → IsFrom sources → 1 ≤ length sources
-some-source [] h = absurd h
-some-source (first ∷ more) h = omega arith
+-- what the bytes of a script lead to, its file leads to
+module _ {F : Type 0} (contents : F → List ℕ → Option (List ℕ)) (faults : F → List ℕ → ℕ) (old new : F) (name bytes seen : List ℕ) (same : seen ≡ bytes)
+    (read : Passes contents faults old new (asks_within MAX_SCRIPT_BYTES name) bytes) where
+  file-Passes : (query : Query) → PassesUnasked (bytes_course seen) query → Passes contents faults old new (script_course name) query
+  file-Passes query passes = λ next end answer gives.
+      read (λ bs. bytes_course bs next) end answer
+      (subst (λ (bs : List ℕ). Gives (contents new) (faults new) end (bytes_course bs next) answer) same (passes (contents new) (faults new) end next answer gives))
+
+  file-Stops : (e : Refusal) → StopsUnasked (bytes_course seen) e → Stops contents faults old new (script_course name) e
+  file-Stops e stops = λ next.
+      read (λ bs. bytes_course bs next) (faults new) (Err e)
+      (subst (λ (bs : List ℕ). Gives (contents new) (faults new) (faults new) (bytes_course bs next) (Err e)) same (stops (contents new) (faults new) (faults new) next))
+
+  -- the same of what the bytes ask for, and of why they ask for nothing
+  pub query-Passes : (found : Result BoundQuery Refusal) → IfOk found (λ bound. PassesUnasked (bytes_course seen) bound.query) → IfOk found (λ bound. Passes contents faults old new (script_course name) bound.query)
+  query-Passes (Ok bound) passes = file-Passes bound.query passes
+  query-Passes (Err e) passes = tt
+
+  pub query-Stops : (found : Result BoundQuery Refusal) → IfErr found (λ e. StopsUnasked (bytes_course seen) e) → IfErr found (λ e. Stops contents faults old new (script_course name) e)
+  query-Stops (Ok bound) stops = tt
+  query-Stops (Err e) stops = file-Stops e stops

@@ -1,32 +1,30 @@
 -- The course of a command: what it asks for and what it answers, in the order of refusals.
-use Rattle.std.specs.Prelude.{ℕ, ◌+◌, ◌-◌, ◌^◌, ◌∷◌, ◌++◌, sum, List, [], Result, Ok, Err, Option, None, Some, nat_lt, length, position, replicate, slice_get, if◌then◌else◌}
-use Rattle.std.specs.Option.{option_map, option_map_or}
-use Rattle.column_table.specs.declared.declared.ColumnDecl.{ColumnDecl}
-use Rattle.column_table.specs.declared.declared.Decl.{Decl}
+use Rattle.std.specs.Prelude.{ℕ, ◌-◌, ◌∷◌, ◌++◌, sum, List, [], Result, Ok, Err, Option, None, Some, nat_lt, length, if◌then◌else◌}
+use Rattle.rpt_base.specs.declared.filters.FilterKind.{FilterKind}
+use Rattle.rpt_base.specs.declared.filters.FilterKind.TheVariants as filter_kind
 use Rattle.rpt_base.specs.declared.limits.TheConstants.{MAX_SCRIPT_BYTES, MAX_TABLE_BYTES, MAX_ROWS}
-use Rattle.rpt_base.specs.declared.values.Value.{Value}
-use Rattle.csv_load.specs.declared.refusal.LoadError.{LoadError}
-use Rattle.csv_load.specs.declared.refusal.LoadError.TheVariants as load_error
-use Rattle.csv_load.specs.FileTable.{file_table}
-use Rattle.column_table.specs.Table.{Rows, types_of}
+use Rattle.column_table.specs.declared.declared.Decl.{Decl}
+use Rattle.column_table.specs.Table.{Rows}
 use Rattle.script_rules.specs.declared.found.Fault.{Fault}
-use Rattle.binder.specs.Query.{BoundQuery, Query}
-use Rattle.binder.specs.Binding.{query_of}
 use Rattle.script_rules.specs.Faults.{refusal_of as script_refusal}
-use Rattle.binder.specs.Answer.{answer_of, counts_of}
-use Rattle.join_laws.specs.PrefixJoin.{prefix_joins}
-use Rattle.join_laws.specs.Selected.{instance_of, selected_counts, selected_rows}
-use Rattle.row_output.specs.OutputText.{output_text}
 use Rattle.sql_text.specs.declared.tree.Script.{Script}
-use Rattle.rpt_cli.specs.declared.refusal.Refusal.{Refusal}
-use Rattle.rpt_cli.specs.declared.refusal.Refusal.TheVariants.{Usage, TooLarge, Bind, Header, Ragged, BadField, NotUtf8, TooManyRows, RowsOverflow, Memory}
-use Rattle.rpt_cli.specs.declared.words.Command.{Command}
-use Rattle.rpt_cli.specs.Words.{command_of, table_file}
-use Rattle.rpt_cli.specs.Course.{Answer, Course, Ends, Asks, Finds, goes_on}
+use Rattle.bound_query.specs.Query.{BoundQuery, Query}
+use Rattle.bound_query.specs.Answer.{answer_of, counts_of}
+use Rattle.binder.specs.Binding.{query_of}
+use Rattle.row_output.specs.OutputText.{output_text}
 use Rattle.plan_report.specs.Report.{report_of}
-use Rattle.rpt_cli.specs.Matters.{Planning, Prepared, Preparing, Reading}
-use Rattle.rpt_cli.specs.declared.words.Mode.{Mode}
-use Rattle.rpt_cli.specs.declared.words.Mode.TheVariants as mode
+use Rattle.rpt_engine.specs.Joins.{overflow_of, sizes_of}
+use Rattle.rpt_engine.specs.Planned.{no_sizes}
+use Rattle.rpt_engine.specs.declared.planning.Plan.{Plan}
+use Rattle.command_words.specs.declared.words.Command.{Command}
+use Rattle.command_words.specs.declared.words.Mode.{Mode}
+use Rattle.command_words.specs.declared.words.Mode.TheVariants as mode
+use Rattle.command_words.specs.Words.{command_of}
+use Rattle.refusal_lines.specs.declared.refusal.Refusal.{Refusal}
+use Rattle.refusal_lines.specs.declared.refusal.Refusal.TheVariants.{Usage, TooLarge, Bind, TooManyRows, RowsOverflow}
+use Rattle.rpt_cli.specs.Course.{Course, Ends, Asks, Finds, goes_on}
+use Rattle.rpt_cli.specs.Matters.{Planning, Preparing, Reading}
+use Rattle.rpt_cli.specs.Tables.{table_file, table_of}
 
 -- a file is asked for, whose contents have at most so many bytes
 abbrev pub asks_within : ℕ → List ℕ → (List ℕ → Course) → Course
@@ -37,92 +35,81 @@ abbrev pub query_or : Option Fault → Query → Result Query Refusal
 query_or None query = Ok query
 query_or (Some fault) query = Err (Bind fault.kind fault.at)
 
--- the name of a declared column; none where there is no column of this number
-abbrev pub name_at : List ColumnDecl → ℕ → List ℕ
-name_at columns column = option_map_or (λ (c : ColumnDecl). c.name) (slice_get columns column) []
+abbrev pub query_of_script : Script → Result Query Refusal
+query_of_script script = query_or (script_refusal script) (query_of script)
 
--- the refusal of a table, with its name and that of the column
-abbrev pub refusal_of : Decl → LoadError → Refusal
-refusal_of decl (load_error.Header column) = Header decl.name (name_at decl.columns column)
-refusal_of decl (load_error.Ragged row) = Ragged decl.name row
-refusal_of decl (load_error.BadField row column) = BadField decl.name row (name_at decl.columns column)
-refusal_of decl (load_error.NotUtf8 row column) = NotUtf8 decl.name row (name_at decl.columns column)
-refusal_of decl load_error.TooManyRows = TooManyRows
-refusal_of decl load_error.Memory = Memory
+-- bytes are read as a script, and the course goes on with what it is bound to
+abbrev pub bytes_course : List ℕ → (Query → Course) → Course
+bytes_course bytes next = Finds (Reading bytes) (λ script. goes_on (query_of_script script) next)
 
--- a table with these rows, or its refusal
-abbrev pub table_or : Decl → Result (List (List Value)) LoadError → Result Rows Refusal
-table_or decl (Ok rows) = Ok (record { kinds = types_of decl.columns; rows = rows })
-table_or decl (Err e) = Err (refusal_of decl e)
+-- the script's file is asked for, and its bytes are read
+abbrev pub script_course : List ℕ → (Query → Course) → Course
+script_course name next = asks_within MAX_SCRIPT_BYTES name (λ bytes. bytes_course bytes next)
 
--- a table from the bytes of its file, or why there is none
-abbrev pub table_of : Decl → List ℕ → Result Rows Refusal
-table_of decl bytes = table_or decl (file_table MAX_ROWS decl.columns bytes)
+-- a table's file is asked for, with at most so many bytes, and the course goes on with the table and the bytes that are left
+abbrev pub table_course : ℕ → List ℕ → Decl → ((Rows × ℕ) → Course) → Course
+table_course room folder decl next =
+    asks_within room (table_file folder decl.name) (λ bytes. goes_on (table_of decl bytes) (λ table. next (table, room - length bytes)))
 
--- the first prefix of an order, from 1, that has 2^63 tuples or more
-abbrev pub overflow_of : List (List (List ℕ)) → Option ℕ
-overflow_of prefixes = option_map (λ k. k + 1) (position (λ tuples. nat_lt (2 ^ 63 - 1) (length tuples)) prefixes)
-
--- a text, unless a prefix has too many tuples
-abbrev pub text_unless : Option ℕ → List ℕ → Answer
-text_unless None text = Ok text
-text_unless (Some prefix) text = Err (RowsOverflow prefix)
-
--- the text of the answer, where the selected rows are joined along an order
-abbrev pub joined_text : BoundQuery → List Rows → List ℕ → Answer
-joined_text bound tables order =
-    text_unless (overflow_of (prefix_joins (instance_of bound tables) (selected_rows bound tables) order)) (output_text bound.query tables (answer_of bound.query tables))
-
--- A query over its tables, where the relations' rows are within the limit together: it is planned by the numbers of selected
--- rows, with the order that is given, if any is, and the selected rows are joined along the plan's order.
-abbrev pub answer_course : BoundQuery → Option (List ℕ) → List Rows → Course
-answer_course bound order tables =
-    if nat_lt MAX_ROWS (sum (counts_of bound.query tables)) then Ends (Err TooManyRows)
-    else Finds (Planning bound.known.sets (selected_counts bound tables) order) (λ plan. Ends (joined_text bound tables plan.order))
-
--- the sizes of relations of which nothing is known
-abbrev pub no_sizes : List (List ℕ) → List ℕ
-no_sizes sets = replicate (length sets) 0
-
--- the tables' files are asked for one after the other, in the order of first use, with at most so many bytes together, and the
--- course goes on with all tables
+-- one after the other, with at most so many bytes together, and the course goes on with the tables behind those that were read
 abbrev pub tables_course : List ℕ → (List Rows → Course) → ℕ → List Rows → List Decl → Course
 tables_course folder next room tables [] = next tables
 tables_course folder next room tables (decl ∷ decls) =
-    asks_within room (table_file folder decl.name) (λ bytes. goes_on (table_of decl bytes) (λ table.
-    tables_course folder next (room - length bytes) (tables ++ table ∷ []) decls))
+    table_course room folder decl (λ read. tables_course folder next read.1 (tables ++ read.0 ∷ []) decls)
 
--- a query that is prepared, over its tables
-abbrev pub query_course : ℕ → List ℕ → Query → Prepared → Course
-query_course limit folder query prepared =
-    tables_course folder (answer_course (record { query = query; known = prepared.known }) prepared.order) limit [] query.tables
+-- how many bytes the tables' files may have together; a word, so that no goal computes with the number
+unfoldable pub most_table_bytes : ℕ
+most_table_bytes = MAX_TABLE_BYTES
 
--- how a query is answered is reported, with all sizes 0, since no table is read
-abbrev pub check_course : Query → Prepared → Course
-check_course query prepared =
-    Finds (Planning prepared.known.sets (no_sizes prepared.known.sets) prepared.order)
-    (λ plan. Ends (Ok (report_of query prepared.known plan.tree plan.order plan.lists)))
+-- the tables' files are asked for in the order of first use, and the course goes on with all tables
+abbrev pub load_course : List ℕ → List Decl → (List Rows → Course) → Course
+load_course folder decls next = tables_course folder next most_table_bytes [] decls
+
+-- a course goes on, unless a prefix has too many tuples
+abbrev pub unless_overflow : Option ℕ → Course → Course
+unless_overflow None next = next
+unless_overflow (Some prefix) next = Ends (Err (RowsOverflow prefix))
+
+-- The relations of a query are joined over its tables, where their rows are within the limit together: the query is planned, with
+-- the order that is given, if any is, and the course goes on with the plan, unless it overflows.
+abbrev pub join_course : FilterKind → BoundQuery → Option (List ℕ) → List Rows → (Plan → Course) → Course
+join_course filter bound order tables next =
+    if nat_lt MAX_ROWS (sum (counts_of bound.query tables)) then Ends (Err TooManyRows)
+    else Finds (Planning bound.known.sets (sizes_of bound tables) order) (λ plan. unless_overflow (overflow_of filter bound tables plan) (next plan))
+
+-- the text of the answer, however it was found
+abbrev pub answer_text : BoundQuery → List Rows → List ℕ
+answer_text bound tables = output_text bound.query tables (answer_of bound.query tables)
+
+-- mode run: the query is answered over its tables
+abbrev pub run_course : FilterKind → List ℕ → BoundQuery → Option (List ℕ) → Course
+run_course filter folder bound order =
+    load_course folder bound.query.tables (λ tables. join_course filter bound order tables (λ plan. Ends (Ok (answer_text bound tables))))
+
+-- mode check: how the query is answered is reported, with all sizes 0, since no table is read
+abbrev pub check_course : BoundQuery → Option (List ℕ) → Course
+check_course bound order =
+    Finds (Planning bound.known.sets (no_sizes bound.known.sets) order)
+    (λ plan. Ends (Ok (report_of bound.query bound.known plan.tree plan.order plan.lists)))
 
 -- a query that can be answered, in a mode
-abbrev pub mode_course : ℕ → Mode → List ℕ → Query → Prepared → Course
-mode_course limit mode.Run folder query prepared = query_course limit folder query prepared
-mode_course limit mode.Check folder query prepared = check_course query prepared
+abbrev pub mode_course : Mode → FilterKind → List ℕ → BoundQuery → Option (List ℕ) → Course
+mode_course mode.Run filter folder bound order = run_course filter folder bound order
+mode_course mode.Check filter folder bound order = check_course bound order
 
--- a bound query, which is prepared with the order that is given
-abbrev pub bound_course : ℕ → Command → Query → Course
-bound_course limit command query = Finds (Preparing query command.order command.force) (mode_course limit command.mode command.folder query)
+-- the filters that a command asks for: exact ones
+abbrev pub filter_of : Command → FilterKind
+filter_of command = filter_kind.Exact
 
--- what a script leads to
-abbrev pub read_course : ℕ → Command → Script → Course
-read_course limit command script = goes_on (query_or (script_refusal script) (query_of script)) (bound_course limit command)
+-- a bound query is prepared with the order that is given, and answered in the command's mode
+abbrev pub query_course : Command → Query → Course
+query_course command query =
+    Finds (Preparing query command.order command.force) (λ found.
+    mode_course command.mode (filter_of command) command.folder (record { query = query; known = found.known }) found.order)
 
--- what a script's bytes lead to
-abbrev pub script_course : ℕ → Command → List ℕ → Course
-script_course limit command bytes = Finds (Reading bytes) (read_course limit command)
-
--- the script is asked for first
+-- the script comes first, and what it is bound to
 abbrev pub command_course : Command → Course
-command_course command = asks_within MAX_SCRIPT_BYTES command.script (script_course MAX_TABLE_BYTES command)
+command_course command = script_course command.script (query_course command)
 
 -- words that are no command end the course at once
 abbrev pub course_of : Option Command → Course

@@ -2,8 +2,8 @@
 use Rattle.std.specs.Prelude.{◌≡◌, ◌⊎◌, ℕ, ◌+◌, ◌-◌, ◌^◌, ◌<◌, min, List, Result, Ok, Err, Option, Some, IfSome, MatchResult, ⊤}
 use Rattle.rpt_outside.specs.Causes.{Rose, Tells}
 use Rattle.rpt_cli.specs.Matters.{Found, IsFound, Matter}
-use Rattle.rpt_cli.specs.declared.refusal.Refusal.{Refusal}
-use Rattle.rpt_cli.specs.declared.refusal.Refusal.TheVariants.{ReadFault, Memory}
+use Rattle.refusal_lines.specs.declared.refusal.Refusal.{Refusal}
+use Rattle.refusal_lines.specs.declared.refusal.Refusal.TheVariants.{ReadFault, Memory}
 
 -- the text, or why there is none
 abbrev pub Answer : Type 0

@@ -1,10 +1,9 @@
-pub mod Words
 pub mod Scripts
 pub mod Orders
 pub mod Matters
 pub mod Course
+pub mod Tables
 pub mod Command
-pub mod Message
 pub mod Delivery
 pub mod Outcome
 pub mod Steps

@@ -1,7 +1,7 @@
 -- What is found out on the way, and why it may be refused.
 use Rattle.std.specs.Prelude.{◌≡◌, ℕ, Bool, List, Option, None, Some, Result, Ok, Err}
 use Rattle.column_classes.specs.Variables.{AreQueryVariables, QueryVariables}
-use Rattle.binder.specs.Query.{Query, widths_of}
+use Rattle.bound_query.specs.Query.{Query, widths_of}
 use Rattle.join_graph.specs.JoinList.{IsAcyclic}
 use Rattle.largest_root.specs.Greedy.{IsCyclic}
 use Rattle.rpt_engine.specs.Planned.{IsPlan}
@@ -10,8 +10,8 @@ use Rattle.rpt_engine.specs.declared.planning.Plan.{Plan}
 use Rattle.sql_text.specs.declared.tree.Script.{Script}
 use Rattle.rpt_cli.specs.Orders.{order_of}
 use Rattle.rpt_cli.specs.Scripts.{IsScript}
-use Rattle.rpt_cli.specs.declared.refusal.Refusal.{Refusal}
-use Rattle.rpt_cli.specs.declared.refusal.Refusal.TheVariants.{Cyclic, OrderNames, UnsafeOrder}
+use Rattle.refusal_lines.specs.declared.refusal.Refusal.{Refusal}
+use Rattle.refusal_lines.specs.declared.refusal.Refusal.TheVariants.{Cyclic, OrderNames, UnsafeOrder}
 
 -- the script that bytes are; whether a query can be answered, with an order by its words or none, forced or not; and how it is
 -- answered, where its relations have these variables and sizes

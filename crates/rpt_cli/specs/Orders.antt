@@ -2,7 +2,7 @@
 use Rattle.std.specs.Prelude.{ℕ, ◌&&◌, ◌==◌, Bool, List, [], ◌∷◌, length, map, nat_lt, Option, None, Some, if◌then◌else◌}
 use Rattle.std.specs.List.{list_all, position_or_len, range_with_len}
 use Rattle.std.specs.Str.{bytes_eq, str_to_ascii_lowercase}
-use Rattle.binder.specs.Query.{Query}
+use Rattle.bound_query.specs.Query.{Query}
 use Rattle.join_graph.specs.JoinList.{has}
 
 abbrev pub is_comma : ℕ → Bool

@@ -4,8 +4,8 @@ use Rattle.sql_lex.specs.declared.tokens.Token.{Token}
 use Rattle.sql_lex.specs.Tokens.{IsBadAt, IsTokenList}
 use Rattle.sql_text.specs.declared.tree.Script.{Script}
 use Rattle.sql_text.specs.Sentence.{IsSentence, IsSyntaxError, IsTooDeep}
-use Rattle.rpt_cli.specs.declared.refusal.Refusal.{Refusal}
-use Rattle.rpt_cli.specs.declared.refusal.Refusal.TheVariants.{Lex, Syntax, TooDeep}
+use Rattle.refusal_lines.specs.declared.refusal.Refusal.{Refusal}
+use Rattle.refusal_lines.specs.declared.refusal.Refusal.TheVariants.{Lex, Syntax, TooDeep}
 
 -- a script's bytes are this script, or are refused so
 abbrev pub IsScript : List ℕ → Result Script Refusal → Type 0

@@ -1,11 +1,10 @@
 // What the two sinks take of an answer.
 ghost use Rattle.std.specs.Prelude.{◌≡◌};
 ghost use Rattle.rpt_outside.specs.Whole.{bytes_of};
-ghost use Rattle.rpt_cli.specs.Message.{status_of};
+ghost use Rattle.refusal_lines.specs.Message.{status_of};
 ghost use Rattle.rpt_cli.specs.Delivery.{Delivers, TakesLine};
 
-use crate::message::{put_line, put_text};
-use crate::refusal::Refusal;
+use refusal_lines::{Refusal, put_line, put_text, status};
 use rpt_outside::Sink;
 
 /// Puts the text, or the line of the refusal, and gives the status.
@@ -32,24 +31,4 @@ fn refuse<M: Sink>(refusal: &Refusal, messages: &mut M) -> u8
 {
     let _ = put_line(refusal, messages);
     status(refusal)
-}
-
-fn status(refusal: &Refusal) -> u8
-    ensures { result ≡ status_of refusal.now }
-{
-    match refusal {
-        Refusal::Memory => 1,
-        Refusal::Usage | Refusal::OrderNames => 2,
-        Refusal::ReadFault { .. } => 3,
-        Refusal::WriteFault => 4,
-        Refusal::Lex { .. } | Refusal::Syntax { .. } | Refusal::TooDeep { .. } => 5,
-        Refusal::Bind { .. } => 6,
-        Refusal::Header { .. }
-        | Refusal::Ragged { .. }
-        | Refusal::BadField { .. }
-        | Refusal::NotUtf8 { .. } => 7,
-        Refusal::Cyclic { .. } => 8,
-        Refusal::UnsafeOrder { .. } => 9,
-        Refusal::TooLarge { .. } | Refusal::TooManyRows | Refusal::RowsOverflow { .. } => 10,
-    }
 }

@@ -1,11 +1,10 @@
 // Files that a command asks for.
-ghost use Rattle.std.specs.Prelude.{◌≡◌, ◌⊎◌};
-ghost use Rattle.rpt_outside.specs.Causes.{NeverFalls};
-ghost use Rattle.rpt_outside.specs.Whole.{bytes_of};
-ghost use Rattle.rpt_cli.specs.declared.refusal.Refusal.TheVariants.{ReadFault, TooLarge, Memory};
-ghost use Rattle.rpt_cli.specs.Steps.{Fetches};
+ghost use Rattle.std.specs.Prelude.{◌≡◌, ◌⊎◌, ◌≤◌, IfErr, IfOk, length};
+ghost use Rattle.refusal_lines.specs.declared.refusal.Refusal.TheVariants.{ReadFault, TooLarge, Memory};
+ghost use Rattle.rpt_cli.specs.Command.{asks_within};
+ghost use Rattle.rpt_cli.specs.Steps.{Passes, Stops};
 
-use crate::refusal::Refusal;
+use refusal_lines::Refusal;
 use rpt_base::Str;
 use rpt_outside::{Files, ReadError, read_whole};
 use std::alloc::Global;
@@ -17,9 +16,9 @@ pub(crate) fn fetch<F: Files>(
     name: &Str,
     limit: u32,
 ) -> Result<Vec<u8>, Refusal>
-    ensures fetches { Fetches (F.contents files.old name.now) (F.faults files.old) (F.faults files.new) limit name.now (bytes_of result) }
-    ensures contents { F.contents files.new ≡ F.contents files.old }
-    ensures later { NeverFalls (F.faults files.old) (F.faults files.new) }
+    ensures within { IfOk result (λ bytes. length bytes.items ≤ limit) }
+    ensures passes { IfOk result (λ bytes. Passes F.contents F.faults files.old files.new (asks_within limit name.now) bytes.items) }
+    ensures refused { IfErr result (λ e. Stops F.contents F.faults files.old files.new (asks_within limit name.now) e) }
 {
     match read_whole(alloc, files, name.bytes(), limit) {
         Ok(bytes) => Ok(bytes),

@@ -5,22 +5,18 @@
 //! of the definitions in `specs/`, and every other status has its cause there.
 #![tactic(auto)]
 
-mod answers;
 mod check;
+mod command;
 mod deliver;
 mod fetch;
-mod follow;
-mod message;
+mod joins;
 mod orders;
-mod prepared;
-mod refusal;
-mod script;
-mod settings;
+mod query;
+mod ready;
+mod reply;
+mod run;
 mod tables;
-mod top;
-mod words;
 
-pub use message::put_line;
-pub use refusal::Refusal;
-pub use top::run_command;
-pub use words::{Command, Mode, WordsError, read_words};
+pub use command::run_command;
+pub use command_words::{Command, Mode, WordsError, read_words};
+pub use refusal_lines::{Refusal, put_line};

@@ -6,8 +6,8 @@ ghost use Rattle.rpt_cli.specs.Orders.{is_comma, is_name, is_order, order_of, pi
 ghost use Rattle.safe_subjoin.specs.SafeOrder.{IsOrder};
 ghost use Rattle.rpt_cli.specs.Steps.{SaysOrder};
 
-use crate::refusal::Refusal;
 use binder::Bound;
+use refusal_lines::Refusal;
 use rpt_base::{Listed, Memory, Name, Str};
 use std::alloc::Global;
 

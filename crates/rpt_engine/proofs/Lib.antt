@@ -1,4 +1,7 @@
-pub mod AcceptedFacts
-pub mod SequenceFacts
-pub mod PlanFacts
-pub mod EachFacts
+mod AcceptedFacts
+mod SequenceFacts
+mod PlanFacts
+pub mod OnePlan
+mod EachFacts
+mod OverflowFacts
+mod AnswerFacts

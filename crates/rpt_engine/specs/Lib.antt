@@ -1,3 +1,4 @@
 pub mod Prepared
 pub mod Planned
+pub mod Joins
 pub mod Answered

@@ -1,5 +1,5 @@
 -- How a query is answered: its tree, the order of its relations, and the join lists of the order's prefixes.
-use Rattle.std.specs.Prelude.{◌≡◌, ℕ, List, Option, None, Some}
+use Rattle.std.specs.Prelude.{◌≡◌, ℕ, List, Option, None, Some, length, replicate}
 use Rattle.join_graph.specs.declared.tree.Tree.{Tree}
 use Rattle.largest_root.specs.Greedy.{IsLargestRoot}
 use Rattle.safe_subjoin.specs.SafeOrder.{AreListsOfPrefixes, sequence}
@@ -15,3 +15,7 @@ pub record IsPlan (vs : List (List ℕ)) (sizes : List ℕ) (order : Option (Lis
   pub tree : IsLargestRoot vs sizes plan.tree
   pub order_is : plan.order ≡ order_or order plan.tree
   pub lists : AreListsOfPrefixes vs plan.order plan.lists
+
+-- the sizes of relations of which nothing is known
+abbrev pub no_sizes : List (List ℕ) → List ℕ
+no_sizes sets = replicate (length sets) 0

@@ -1,11 +1,14 @@
 -- When a query can be answered along an order.
-use Rattle.std.specs.Prelude.{ℕ, ◌≤◌, Bool, true, false, List, length, Option, None, Some, ⊤}
+use Rattle.std.specs.Prelude.{◌≡◌, ℕ, ◌≤◌, Bool, true, false, IfSome, List, length, Option, None, Some, ⊤}
+use Rattle.bound_query.specs.Query.{BoundQuery}
 use Rattle.join_graph.specs.JoinList.{IsAcyclic}
 use Rattle.join_graph.specs.SafeSet.{IsSafe}
 use Rattle.largest_root.specs.Greedy.{IsCyclic}
-use Rattle.safe_subjoin.specs.SafeOrder.{IsFirstUnsafe, first_of}
+use Rattle.safe_subjoin.specs.SafeOrder.{IsFirstUnsafe, IsOrder, first_of}
 use Rattle.rpt_engine.specs.declared.errors.PrepareError.{PrepareError}
 use Rattle.rpt_engine.specs.declared.errors.PrepareError.TheVariants.{Cyclic, UnsafeOrder, Memory}
+use Rattle.rpt_engine.specs.declared.options.Options.{Options}
+use Rattle.rpt_engine.specs.declared.preparing.Prepared.{Prepared}
 
 -- an accepted order: each of its prefixes is a safe set
 abbrev pub IsAccepted : List (List ℕ) → List ℕ → Type 0
@@ -28,3 +31,9 @@ abbrev pub IsUnprepared : List (List ℕ) → Option (List ℕ) → Bool → Pre
 IsUnprepared vs order force (Cyclic best needed) = IsCyclic vs best needed
 IsUnprepared vs order force (UnsafeOrder prefix) = IsAcyclic vs × IsUnsafeAt vs order force prefix
 IsUnprepared vs order force Memory = Unit {0}
+
+-- what an answer rests on: the graph is the query's, which has a join list, and an order that is given has each relation once
+pub record IsReady (bound : BoundQuery) (prepared : Prepared) (options : Options) : Type 0 where
+  pub graph : prepared.graph ≡ bound.known.sets
+  pub acyclic : IsAcyclic bound.known.sets
+  pub order : IfSome options.order (λ order. IsOrder (length bound.known.sets) order)

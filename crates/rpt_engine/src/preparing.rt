@@ -6,7 +6,7 @@ ghost use Rattle.rpt_engine.specs.Prepared.{IsAllowed, IsUnprepared};
 
 use crate::errors::PrepareError;
 use crate::options::Options;
-use binder::Bound;
+use bound_query::Bound;
 use join_graph::Graph;
 use largest_root::{TreeError, join_tree};
 use rpt_base::Listed;
@@ -34,10 +34,11 @@ pub fn prepare(alloc: Global, bound: &Bound, options: &Options) -> Result<Prepar
     if let Err(error) = find_tree(alloc, &graph) {
         return Err(error);
     }
-    if let Err(error) = check_order(alloc, &graph, &options.order, options.force) {
+    let prepared = Prepared { graph };
+    if let Err(error) = allow(alloc, &prepared, &options.order, options.force) {
         return Err(error);
     }
-    Ok(Prepared { graph })
+    Ok(prepared)
 }
 
 // Finds whether there is a join list. The sizes play no part in that.
@@ -53,17 +54,18 @@ fn find_tree(alloc: Global, graph: &Graph) -> Result<(), PrepareError>
     }
 }
 
-// Finds whether an order that is given is accepted, where it has to be.
-fn check_order(
+/// Finds whether a prepared query can be answered along an order that is given: `Ok` exactly where there is none, or it is accepted or
+/// forced. It has each relation once. `UnsafeOrder` tells the least of its prefixes that isn't a safe set.
+pub fn allow(
     alloc: Global,
-    graph: &Graph,
+    prepared: &Prepared,
     order: &Option<Listed<u32>>,
     force: bool,
 ) -> Result<(), PrepareError>
-    requires acyclic { IsAcyclic graph.now }
-    requires order { IfSome order.now (λ order. IsOrder (length graph.now) order) }
-    ensures allowed { IfOk result (λ _. IsAllowed graph.now order.now force) }
-    ensures refused { IfErr result (λ e. IsUnprepared graph.now order.now force e) }
+    requires acyclic { IsAcyclic prepared.now.graph }
+    requires order { IfSome order.now (λ order. IsOrder (length prepared.now.graph) order) }
+    ensures allowed { IfOk result (λ _. IsAllowed prepared.now.graph order.now force) }
+    ensures refused { IfErr result (λ e. IsUnprepared prepared.now.graph order.now force e) }
 {
     let Some(order) = order else {
         return Ok(());
@@ -71,7 +73,7 @@ fn check_order(
     if force {
         return Ok(());
     }
-    let _lists = match safe_order(alloc, graph, order.as_slice()) {
+    let _lists = match safe_order(alloc, &prepared.graph, order.as_slice()) {
         Ok(lists) => lists,
         Err(OrderError::Unsafe { prefix }) => return Err(PrepareError::UnsafeOrder { prefix }),
         Err(OrderError::Memory) => return Err(PrepareError::Memory),

@@ -1,10 +1,10 @@
 // The selected rows of all relations.
 ghost use Rattle.std.specs.Prelude.{◌≡◌, ◌<◌, ◌++◌, ◌∷◌, ◌^◌, [], IfOk, OnOk, length};
-ghost use Rattle.binder.specs.Answer.{AreTables};
+ghost use Rattle.bound_query.specs.Answer.{AreTables};
 ghost use Rattle.join_laws.specs.Selected.{selected_counts};
 ghost use Rattle.rpt_engine.specs.Answered.{AreSelected};
 
-use binder::Bound;
+use bound_query::Bound;
 use column_table::Table;
 use row_selection::selected;
 use rpt_base::{Listed, Memory};

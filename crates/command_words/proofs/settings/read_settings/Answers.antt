@@ -1,0 +1,19 @@
+use Rattle.std.proofs.Common.{◌∙◌, ap, sym, arith}
+use Rattle.command_words.specs.Words.{no_settings, settings_behind, words_of}
+use Rattle.command_words.proofs.SettingFacts.{behind-all, taken-more, takes-error, words-from, words-length}
+use Rattle.command_words.proofs.settings.read_settings.Goals as goal
+
+pub loop-at-preserved : goal.loop-at-preserved
+loop-at-preserved c =
+    let more = taken-more c.args.words.now c.words_from.result.now c.loop-at.settings c.take_setting.new.settings c.loop-at.at c.in-Ok.taken c.loop-at.invariant.within c.words_from.ensures c.in-Ok.ensures c.loop-at.invariant.rest in
+    record { within = more.0; rest = more.1 }
+
+pub returns-in-Err : goal.returns-in-Err
+returns-in-Err c =
+    takes-error c.loop-at.settings c.take_setting.new.settings (words_of c.words_from.result.now) (settings_behind no_settings (words_of c.args.words.now)) c.in-Err.error
+    (c.loop-at.invariant.rest ∙ ap (settings_behind c.loop-at.settings) (sym (ap (λ ws. words_of ws) c.words_from.ensures ∙ words-from c.args.words.now c.loop-at.at))) c.in-Err.ensures
+
+pub returns : goal.returns
+returns c =
+    let all = words-length c.args.words.now in
+    c.loop-at.invariant.rest ∙ behind-all c.loop-at.settings (words_of c.args.words.now) c.loop-at.at (omega (arith, all, c.loop-at-test.false))

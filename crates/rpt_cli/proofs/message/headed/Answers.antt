@@ -1,5 +1,0 @@
-use Rattle.std.proofs.Common.{refl}
-use Rattle.rpt_cli.proofs.message.headed.Goals as goal
-
-pub returns : goal.returns
-returns c = rw (c.bytes.ensures.bytes, c.bytes-2.ensures.bytes) refl
