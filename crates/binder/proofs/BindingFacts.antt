@@ -6,15 +6,15 @@ use Rattle.column_table.specs.declared.declared.Decl.{Decl}
 use Rattle.predicate.specs.declared.tree.Pred.{Pred}
 use Rattle.sql_text.specs.declared.tree.Script.{Script}
 use Rattle.column_classes.specs.declared.columns.Equality.{Equality}
-use Rattle.binder.specs.declared.output.OutColumn.{OutColumn}
+use Rattle.bound_query.specs.declared.output.OutColumn.{OutColumn}
 use Rattle.binder.specs.Binding.{condition_of, equality_of, output_of, query_of, table_number, tables_of}
 use Rattle.script_rules.specs.Conjuncts.{conjuncts_of}
 use Rattle.script_rules.specs.Scope.{IsWithinLimits, name_of, scope_of}
 use Rattle.script_rules.specs.Faults.{refusal_of}
 use Rattle.column_classes.specs.Variables.{AreEqualities, AreQueryVariables, AreWidths, QueryVariables}
-use Rattle.binder.specs.Query.{AreNarrow, IsBound, IsBoundQuery, Query, widths_in, widths_of}
+use Rattle.bound_query.specs.Query.{AreNarrow, IsBound, IsBoundQuery, Query, widths_in, widths_of}
 use Rattle.binder.proofs.BoundFacts.{query_of-few_columns, query_of-few_tables, query_of-IsBound}
-use Rattle.binder.proofs.WidthFacts.{equalities-are, widths-are}
+use Rattle.bound_query.proofs.WidthFacts.{equalities-are, widths-are}
 
 -- a query uses few tables
 pub tables-few : (script : Script) (tables : List Decl) → IsWithinLimits script → tables ≡ tables_of script → length tables ≤ 16

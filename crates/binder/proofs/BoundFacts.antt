@@ -19,11 +19,11 @@ use Rattle.sql_text.specs.declared.tree.Items.{Items}
 use Rattle.sql_text.specs.declared.tree.Items.TheVariants as items
 use Rattle.sql_text.specs.declared.tree.Source.{Source}
 use Rattle.column_classes.specs.declared.columns.ColumnRef.{ColumnRef}
-use Rattle.binder.specs.declared.output.OutColumn.{OutColumn}
+use Rattle.bound_query.specs.declared.output.OutColumn.{OutColumn}
 use Rattle.script_rules.specs.Scope.{IsWithinLimits, Relation, columns_of, meaning, name_of, relation_of, scope_of}
 use Rattle.script_rules.specs.Conjuncts.{columns_in, conjuncts_of, found, is_equality}
 use Rattle.script_rules.specs.Faults.{conjunct_faults, refusal_of}
-use Rattle.binder.specs.Query.{IsBound, Joins, Names, Query, kinds_of}
+use Rattle.bound_query.specs.Query.{IsBound, Joins, Names, Query, kinds_of}
 use Rattle.column_table.specs.Table.{types_of}
 use Rattle.binder.specs.Binding.{condition_of, equality_between, equality_of, item_output, output_of, declaration, is_declared, query_of, relation_output, table_number, tables_of}
 use Rattle.script_rules.proofs.ScopeFacts.{columns_within}

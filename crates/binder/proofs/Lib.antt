@@ -1,13 +1,12 @@
-pub mod ClearFacts
-pub mod RangeFacts
-pub mod TypedFacts
-pub mod TablesFacts
-pub mod BoundFacts
-pub mod PredFacts
-pub mod GatherFacts
-pub mod EqualityFacts
-pub mod ShownFacts
-pub mod UsedFacts
-pub mod BindingFacts
-pub mod WidthFacts
-pub mod RelationTables
+mod ClearFacts
+mod RangeFacts
+mod TypedFacts
+mod TablesFacts
+mod BoundFacts
+mod PredFacts
+mod GatherFacts
+mod EqualityFacts
+mod ShownFacts
+mod UsedFacts
+mod BindingFacts
+mod WidthSteps

@@ -6,7 +6,7 @@ use Rattle.sql_text.specs.declared.tree.ColumnItem.{ColumnItem}
 use Rattle.sql_text.specs.declared.tree.CreateTable.{CreateTable}
 use Rattle.sql_text.specs.declared.tree.Script.{Script}
 use Rattle.sql_text.specs.declared.tree.Source.{Source}
-use Rattle.binder.specs.declared.output.OutColumn.{OutColumn}
+use Rattle.bound_query.specs.declared.output.OutColumn.{OutColumn}
 use Rattle.script_rules.specs.Scope.{relation_of, scope_of}
 use Rattle.binder.specs.Binding.{relation_output}
 use Rattle.binder.proofs.GatherFacts.{numbered-map}

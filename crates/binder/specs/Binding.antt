@@ -28,10 +28,10 @@ use Rattle.sql_text.specs.declared.tree.Cond.TheOpen.{Cond-F, And, Or, Not, Comp
 use Rattle.sql_text.specs.declared.tree.Cond.TheFolds.{fold-Cond}
 use Rattle.column_classes.specs.declared.columns.ColumnRef.{ColumnRef}
 use Rattle.column_classes.specs.declared.columns.Equality.{Equality}
-use Rattle.binder.specs.declared.output.OutColumn.{OutColumn}
+use Rattle.bound_query.specs.declared.output.OutColumn.{OutColumn}
 use Rattle.script_rules.specs.Scope.{Relation, columns_of, meaning, name_of, scope_of}
 use Rattle.script_rules.specs.Conjuncts.{columns_in, conjuncts_of, first_relation, found, is_equality}
-use Rattle.binder.specs.Query.{Query}
+use Rattle.bound_query.specs.Query.{Query}
 
 -- a declared column
 abbrev pub declaration : ColumnItem → ColumnDecl

@@ -1,3 +1,1 @@
-pub mod Query
 pub mod Binding
-pub mod Answer

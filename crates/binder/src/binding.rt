@@ -5,13 +5,13 @@ ghost use Rattle.script_rules.specs.Faults.{refusal_of};
 ghost use Rattle.script_rules.specs.Scope.{IsWithinLimits};
 ghost use Rattle.script_rules.specs.declared.kinds.BindKind.{BindKind as Kind};
 
-use crate::bound::Bound;
 use crate::refusal::BindError;
 use crate::shown::output;
 use crate::translate::conditions;
 use crate::used::{aliases, table_numbers, tables_of};
 use crate::widths::variables;
 use crate::written::equalities;
+use bound_query::{Bound, QueryParts};
 use rpt_base::Memory;
 use script_rules::first_fault;
 use sql_text::Script;
@@ -56,13 +56,13 @@ fn bound(alloc: Global, script: &Script) -> Result<Bound, Memory>
         table_of.as_slice(),
         equalities.as_slice(),
     )?;
-    Ok(Bound {
+    let parts = QueryParts {
         aliases,
         tables,
         table_of,
         conditions,
         equalities,
         output,
-        variables,
-    })
+    };
+    Ok(Bound::make(parts, variables))
 }

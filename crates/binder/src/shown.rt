@@ -4,11 +4,11 @@ ghost use Rattle.std.specs.List.{enumerate_from, flat_map};
 ghost use Rattle.std.specs.Option.{option_map_or};
 ghost use Rattle.sql_text.specs.declared.tree.ColumnItem.{ColumnItem};
 ghost use Rattle.column_classes.specs.declared.columns.ColumnRef.{ColumnRef};
-ghost use Rattle.binder.specs.declared.output.OutColumn.{OutColumn};
+ghost use Rattle.bound_query.specs.declared.output.OutColumn.{OutColumn};
 ghost use Rattle.script_rules.specs.Scope.{IsWithinLimits, columns_of, relation_of, scope_of};
 ghost use Rattle.binder.specs.Binding.{item_output, output_of, relation_output};
 
-use crate::output::OutColumn;
+use bound_query::OutColumn;
 use column_classes::ColumnRef;
 use rpt_base::{Listed, Memory, Name};
 use script_rules::{columns_of, meaning};

@@ -3,7 +3,7 @@ ghost use Rattle.std.specs.Prelude.{◌≡◌, ◌≤◌, IfOk, length};
 ghost use Rattle.std.specs.List.{All};
 ghost use Rattle.rpt_base.specs.declared.limits.TheConstants.{MAX_COLUMNS};
 ghost use Rattle.column_classes.specs.Variables.{AreEqualities, AreQueryVariables, AreWidths};
-ghost use Rattle.binder.specs.Query.{AreNarrow, columns_in, widths_in};
+ghost use Rattle.bound_query.specs.Query.{AreNarrow, columns_in, widths_in};
 
 use column_classes::{Equality, Variables};
 use column_table::Decl;

@@ -7,8 +7,8 @@ use Rattle.std.proofs.lemmas.Option.{get_or_from_slice_get, slice_get_within}
 use Rattle.column_table.specs.declared.declared.ColumnDecl.{ColumnDecl}
 use Rattle.column_classes.specs.declared.columns.ColumnRef.{ColumnRef}
 use Rattle.column_classes.specs.Variables.{AreQueryVariables, IsClass, IsColumn, QueryVariables}
-use Rattle.binder.specs.Query.{Names, Query, columns_in, columns_of, kinds_of, widths_of}
-use Rattle.binder.proofs.WidthFacts.{widths-length}
+use Rattle.bound_query.specs.Query.{Names, Query, columns_in, columns_of, kinds_of, widths_of}
+use Rattle.bound_query.proofs.WidthFacts.{widths-length}
 
 -- a column by the widths of the relations is one by their tables
 column-named : (q : Query) (c : ColumnRef) → IsColumn (widths_of q) c → Names q c

@@ -1,2 +1,2 @@
-pub mod ColumnFacts
-pub mod TextFacts
+mod ColumnFacts
+mod TextFacts

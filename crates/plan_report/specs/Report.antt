@@ -7,7 +7,7 @@ use Rattle.column_table.specs.declared.declared.ColumnDecl.{ColumnDecl}
 use Rattle.column_table.specs.declared.declared.Decl.{Decl}
 use Rattle.column_classes.specs.declared.columns.ColumnRef.{ColumnRef}
 use Rattle.column_classes.specs.Variables.{QueryVariables}
-use Rattle.binder.specs.Query.{Query}
+use Rattle.bound_query.specs.Query.{Query}
 use Rattle.join_graph.specs.declared.tree.Link.{Link}
 use Rattle.join_graph.specs.declared.tree.Tree.{Tree}
 use Rattle.join_graph.specs.JoinList.{HasParents}

@@ -10,6 +10,3 @@ mod trees;
 mod writing;
 
 pub use writing::{ReportInput, report};
-
-#[cfg(test)]
-mod tests;

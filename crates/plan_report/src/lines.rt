@@ -1,11 +1,11 @@
 // The lines of a query's relations and variables, and of its order.
 ghost use Rattle.std.specs.Prelude.{◌≡◌, ◌<◌, ◌++◌, All, OnOk, length};
-ghost use Rattle.binder.specs.Query.{Names, widths_of};
+ghost use Rattle.bound_query.specs.Query.{Names, widths_of};
 ghost use Rattle.column_classes.specs.Variables.{AreQueryVariables};
 ghost use Rattle.plan_report.specs.Report.{count_line, next_text, order_line, relation_line, relation_lines, variable_line, variable_lines};
 
 use crate::pieces::{put, put_alias, put_column, put_number, table_at};
-use binder::{Bound, ColumnRef};
+use bound_query::{Bound, ColumnRef};
 use rpt_base::Memory;
 
 /// How many relations there are.

@@ -1,10 +1,10 @@
 // The pieces of lines, put behind a text.
 ghost use Rattle.std.specs.Prelude.{◌≡◌, ◌<◌, ◌++◌, OnOk, length};
 ghost use Rattle.std.specs.Fmt.{decimal};
-ghost use Rattle.binder.specs.Query.{Names};
+ghost use Rattle.bound_query.specs.Query.{Names};
 ghost use Rattle.plan_report.specs.Report.{alias_of, column_at, column_text, table_at};
 
-use binder::{Bound, ColumnRef};
+use bound_query::{Bound, ColumnRef};
 use column_table::{ColumnDecl, Decl};
 use itoa::Buffer;
 use rpt_base::Memory;

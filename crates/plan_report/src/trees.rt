@@ -4,7 +4,7 @@ ghost use Rattle.join_graph.specs.JoinList.{HasParents};
 ghost use Rattle.plan_report.specs.Report.{AreLists, link_text, list_text, prefix_line, prefix_lines, safe_line, tree_line, unsafe_line, weight_line};
 
 use crate::pieces::{put, put_alias, put_number};
-use binder::Bound;
+use bound_query::Bound;
 use join_graph::{Graph, Link, Tree};
 use rpt_base::Memory;
 

@@ -5,7 +5,7 @@ ghost use Rattle.plan_report.specs.Report.{AreLists, report_of};
 
 use crate::lines::{put_count, put_order, put_relations, put_variables};
 use crate::trees::{put_prefixes, put_tree, put_weight};
-use binder::Bound;
+use bound_query::Bound;
 use join_graph::{Graph, Tree};
 use rpt_base::Memory;
 use std::alloc::Global;

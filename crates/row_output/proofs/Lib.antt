@@ -1,5 +1,5 @@
 pub mod AnswerFacts
-pub mod SortFacts
-pub mod TextFacts
-pub mod TupleFacts
-pub mod TurnFacts
+mod SortFacts
+mod TextFacts
+mod TupleFacts
+mod TurnFacts

@@ -5,7 +5,7 @@ use Rattle.std.proofs.lemmas.Grind.{flat_map-append}
 use Rattle.csv.specs.Writing.{default_writer, row_text}
 use Rattle.csv.specs.declared.writer.Writer.{Writer}
 use Rattle.column_table.specs.Table.{Rows}
-use Rattle.binder.specs.Query.{Query}
+use Rattle.bound_query.specs.Query.{Query}
 use Rattle.row_output.specs.OutputText.{cells, rows_text}
 use Rattle.row_output.specs.Writing.{HasWritten}
 

@@ -6,9 +6,9 @@ use Rattle.csv.specs.Writing.{default_writer, row_text}
 use Rattle.rpt_base.specs.declared.values.Value.{Value}
 use Rattle.rpt_base.specs.declared.values.Value.TheVariants as value
 use Rattle.column_table.specs.Table.{Rows}
-use Rattle.binder.specs.declared.output.OutColumn.{OutColumn}
-use Rattle.binder.specs.Query.{Query}
-use Rattle.binder.specs.Answer.{value_at}
+use Rattle.bound_query.specs.declared.output.OutColumn.{OutColumn}
+use Rattle.bound_query.specs.Query.{Query}
+use Rattle.bound_query.specs.Answer.{value_at}
 
 -- a number in decimal, and a text as it is
 abbrev pub text_of : Value → List ℕ

@@ -1,11 +1,11 @@
 // The cells of the rows that a list of row numbers names.
 ghost use Rattle.std.specs.Prelude.{◌≡◌};
 ghost use Rattle.column_table.specs.Table.{value_of};
-ghost use Rattle.binder.specs.Query.{Names};
-ghost use Rattle.binder.specs.Answer.{AreTables, value_at};
+ghost use Rattle.bound_query.specs.Query.{Names};
+ghost use Rattle.bound_query.specs.Answer.{AreTables, value_at};
 ghost use Rattle.row_output.specs.Tuples.{AreRowNumbers};
 
-use binder::{Bound, ColumnRef, table_at};
+use bound_query::{Bound, ColumnRef, table_at};
 use column_table::Table;
 use rpt_base::Cell;
 

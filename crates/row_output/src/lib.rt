@@ -15,6 +15,3 @@ mod turning;
 pub use answer::Answer;
 pub use order::ordered;
 pub use output::text;
-
-#[cfg(test)]
-mod tests;

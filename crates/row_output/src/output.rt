@@ -4,14 +4,14 @@ ghost use Rattle.std.specs.List.{All};
 ghost use Rattle.column_table.specs.Table.{value_of};
 ghost use Rattle.csv.specs.Records.{fields_of, partial_of};
 ghost use Rattle.csv.specs.Writing.{default_writer, row_text};
-ghost use Rattle.binder.specs.Answer.{AreTables};
+ghost use Rattle.bound_query.specs.Answer.{AreTables};
 ghost use Rattle.row_output.specs.OutputText.{cells, output_text, rows_text, text_of, titles};
 ghost use Rattle.row_output.specs.Tuples.{AreRowNumbers};
 ghost use Rattle.row_output.specs.Writing.{HasWritten};
 
 use crate::answer::Answer;
 use crate::cells::cell_at;
-use binder::{Bound, OutColumn};
+use bound_query::{Bound, OutColumn};
 use column_table::Table;
 use csv::{ByteRecord, Writer, WriterBuilder};
 use itoa::Buffer;

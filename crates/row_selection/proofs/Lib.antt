@@ -1,3 +1,3 @@
-pub mod CellFacts
-pub mod ListFacts
+mod CellFacts
+mod ListFacts
 pub mod SelectedFacts

@@ -15,10 +15,10 @@ use Rattle.predicate.specs.declared.tree.Pred.{Pred}
 use Rattle.predicate.specs.declared.tree.Pred.TheVariants as pred
 use Rattle.predicate.specs.Truth.{is_true}
 use Rattle.column_classes.specs.Variables.{AreQueryVariables}
-use Rattle.binder.specs.Query.{BoundQuery, columns_in, kinds_of, widths_of}
-use Rattle.binder.specs.Answer.{table_at}
+use Rattle.bound_query.specs.Query.{BoundQuery, columns_in, kinds_of, widths_of}
+use Rattle.bound_query.specs.Answer.{table_at}
 use Rattle.join_laws.specs.Selected.{is_selected, selected_rows}
-use Rattle.binder.proofs.RelationTables.{column-within}
+use Rattle.bound_query.proofs.RelationTables.{column-within}
 use Rattle.row_selection.specs.Linked.{AreColumns, AreRows, is_linked}
 use Rattle.row_selection.proofs.ListFacts.{filter-all, filter-twice, set_rows-below, set_rows-map}
 

@@ -8,6 +8,3 @@ mod linked;
 mod selection;
 
 pub use selection::selected;
-
-#[cfg(test)]
-mod tests;

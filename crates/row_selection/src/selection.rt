@@ -2,12 +2,12 @@
 ghost use Rattle.std.specs.Prelude.{◌≡◌, ◌<◌, ◌≤◌, IfOk, length};
 ghost use Rattle.rpt_base.specs.declared.limits.TheConstants.{MAX_ROWS};
 ghost use Rattle.std.specs.List.Sorted.{IsStrictlyIncreasing};
-ghost use Rattle.binder.specs.Answer.{AreTables, table_at};
+ghost use Rattle.bound_query.specs.Answer.{AreTables, table_at};
 ghost use Rattle.join_laws.specs.Selected.{selected_rows};
 ghost use Rattle.row_selection.specs.Linked.{AreRows};
 
 use crate::linked::linked;
-use binder::{Bound, table_at};
+use bound_query::{Bound, table_at};
 use column_table::Table;
 use predicate::select;
 use rpt_base::Memory;

@@ -1,5 +1,5 @@
-use Rattle.std.proofs.Common.{◌∙◌, subst, sym}
-use Rattle.binder.specs.Query.{IsBound, Query}
+use Rattle.std.proofs.Common.{◌∙◌, ap}
+use Rattle.bound_query.specs.Query.{BoundQuery, Query}
 use Rattle.binder.proofs.BindingFacts.{AreParts, parts-bound, parts-equalities, parts-known, parts-query, parts-widths, tables-few, tables-narrow}
 use Rattle.binder.proofs.binding.bound.Goals as goal
 
@@ -39,8 +39,8 @@ variables-requires-clause-equalities c =
     let bound = parts-bound c.args.script.now q c.as_slice.result.now c.requires.sources c.requires.none are in
     parts-equalities q c.as_slice-2.result.now c.as_slice-3.result.now c.as_slice-4.result.now bound c.as_slice-2.ensures c.as_slice-3.ensures.value c.as_slice-4.ensures.value
 
-pub invariant_of-result : goal.invariant_of-result
-invariant_of-result c =
+pub make-requires : goal.make-requires
+make-requires c =
     let q : Query = record { aliases = c.in_ok-aliases.aliases; tables = c.in_ok-tables.tables; table_of = c.in_ok-table_of.table_of.items; conditions = c.in_ok-conditions.conditions; equalities = c.in_ok-equalities.equalities.items; output = c.in_ok-output.output } in
     let are : AreParts c.args.script.now q c.as_slice.result.now = record {
       aliases = c.in_ok-aliases.ensures;
@@ -56,7 +56,7 @@ invariant_of-result c =
 
 pub returns : goal.returns
 returns c =
-    parts-query c.args.script.now (record { aliases = c.in_ok-aliases.aliases; tables = c.in_ok-tables.tables; table_of = c.in_ok-table_of.table_of.items; conditions = c.in_ok-conditions.conditions; equalities = c.in_ok-equalities.equalities.items; output = c.in_ok-output.output }) c.as_slice.result.now
+    ap (λ (b : BoundQuery). b.query) c.make.ensures ∙ parts-query c.args.script.now (record { aliases = c.in_ok-aliases.aliases; tables = c.in_ok-tables.tables; table_of = c.in_ok-table_of.table_of.items; conditions = c.in_ok-conditions.conditions; equalities = c.in_ok-equalities.equalities.items; output = c.in_ok-output.output }) c.as_slice.result.now
     (record {
       aliases = c.in_ok-aliases.ensures;
       tables = c.in_ok-tables.ensures;

@@ -1,5 +1,5 @@
 use Rattle.std.proofs.Common.{◌∙◌, ◌++◌, ◌+◌, List, length, get_or, ap, sym, subst, arith}
-use Rattle.binder.specs.declared.output.OutColumn.{OutColumn}
+use Rattle.bound_query.specs.declared.output.OutColumn.{OutColumn}
 use Rattle.binder.proofs.GatherFacts.{IsGatheredByNumber, numbered-more, numbered-end}
 use Rattle.binder.proofs.ShownFacts.{shown_source, shown-sources}
 use Rattle.binder.proofs.shown.add_all.Goals as goal

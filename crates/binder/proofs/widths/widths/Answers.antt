@@ -1,5 +1,5 @@
 use Rattle.std.proofs.Common.{◌∙◌, arith, sym}
-use Rattle.binder.proofs.WidthFacts.{widths-more}
+use Rattle.binder.proofs.WidthSteps.{widths-more}
 use Rattle.binder.proofs.widths.widths.Goals as goal
 
 pub relations-preserved : goal.relations-preserved

@@ -1,6 +1,6 @@
 use Rattle.std.proofs.Common.{◌≡◌}
 use Rattle.std.specs.Prelude.{take}
-use Rattle.binder.specs.Query.{widths_in}
+use Rattle.bound_query.specs.Query.{widths_in}
 use Rattle.binder.proofs.widths.widths.Given as goal
 
 abbrev pub invariant-relations : goal.invariant-relations

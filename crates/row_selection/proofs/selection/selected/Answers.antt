@@ -5,7 +5,7 @@ use Rattle.std.specs.List.Sorted.{IsStrictlyIncreasing}
 use Rattle.std.proofs.lemmas.Result.{IfOk-weaker}
 use Rattle.column_table.specs.Bits.{set_rows}
 use Rattle.column_table.specs.Table.{Rows}
-use Rattle.binder.specs.Answer.{table_at}
+use Rattle.bound_query.specs.Answer.{table_at}
 use Rattle.join_laws.specs.Selected.{selected_rows}
 use Rattle.row_selection.specs.Linked.{AreRows, is_linked}
 use Rattle.row_selection.proofs.ListFacts.{empty-is}
