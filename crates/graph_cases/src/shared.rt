@@ -1,0 +1,49 @@
+// What relations share.
+use crate::reading::numbers_of;
+use case_text::{CaseError, Entry};
+use join_graph::Graph;
+use std::alloc::Global;
+use std::fmt::Write;
+
+/// Puts how many relations there are, the set of all, and what a join list weighs; and then, for each line `pair`, what two
+/// relations share.
+pub fn put_graph(
+    alloc: Global,
+    graph: &Graph,
+    entries: &[Entry],
+    given: &mut String,
+) -> Result<(), CaseError> {
+    let (relations, all, needed) = (graph.relations(), graph.all().0, graph.needed());
+    writeln!(given, "relations {relations} all {all} needed {needed}")?;
+    for entry in entries {
+        if entry.word.as_str() != "pair" {
+            return Err(CaseError::Word);
+        }
+        put_pair(
+            alloc,
+            graph,
+            &numbers_of(alloc, entry.rest.as_str())?,
+            given,
+        )?;
+    }
+    Ok(())
+}
+
+fn put_pair(
+    alloc: Global,
+    graph: &Graph,
+    pair: &[u32],
+    given: &mut String,
+) -> Result<(), CaseError> {
+    let [i, j] = pair else {
+        return Err(CaseError::Number);
+    };
+    if *i >= graph.relations() || *j >= graph.relations() {
+        return Err(CaseError::Range);
+    }
+    let weight = graph.weight(*i, *j);
+    let shared = graph.shared(alloc, *i, *j)?;
+    let shared = shared.as_slice();
+    writeln!(given, "weight {weight} shared {shared:?}")?;
+    Ok(())
+}

@@ -1,0 +1,127 @@
+// Keys of rows, and rows that are looked up by key.
+ghost use Rattle.std.specs.Prelude.{IsTrue};
+ghost use Rattle.std.specs.List.Sorted.{IsStrictlyIncreasing};
+ghost use Rattle.key_codes.specs.Keys.{AreInRange};
+
+use crate::loads::loaded;
+use crate::numbers::numbers_of;
+use crate::values::{cell_of, put_cell, values_of};
+use case_text::{Case, CaseError, Entry, number_of};
+use hash_join::Build;
+use key_codes::KeyRows;
+use std::alloc::Global;
+use std::fmt::Write;
+use std::thread::Threads;
+
+/// Puts the types and the keys of rows of a table, and then the rows that each key finds that is asked for. The first line
+/// has the rows, the second the columns of their keys, and the third the parts.
+pub fn put_build<R: Threads + Sync>(
+    rt: &R,
+    alloc: Global,
+    case: &Case,
+    given: &mut String,
+) -> Result<(), CaseError> {
+    let [of, by, parts, finds @ ..] = case.entries.as_slice() else {
+        return Err(CaseError::Word);
+    };
+    let Ok(table) = loaded(alloc, case.head.as_str(), &case.text)? else {
+        return Err(CaseError::Range);
+    };
+    let rows = numbers_of(alloc, of.rest.as_str())?;
+    let columns = numbers_of(alloc, by.rest.as_str())?;
+    let keys = KeyRows {
+        table: &table,
+        rows: &rows,
+        columns: &columns,
+    };
+    if !are_in_range(&keys) {
+        return Err(CaseError::Range);
+    }
+    put_keys(&keys, given)?;
+    put_finds(rt, alloc, &keys, parts, finds, given)
+}
+
+// Whether a table has these rows and columns.
+fn are_in_range(keys: &KeyRows<'_>) -> bool
+    ensures { IsTrue result → AreInRange keys.now.table.now keys.now.rows.now keys.now.columns.now }
+{
+    let (rows, columns) = (keys.table.rows(), keys.table.columns());
+    keys.rows.iter().all(|row| *row < rows) && keys.columns.iter().all(|column| *column < columns)
+}
+
+// Whether each number is below the next.
+fn rises(numbers: &[u32]) -> bool
+    ensures { IsTrue result → IsStrictlyIncreasing numbers.now }
+{
+    for place in 1..numbers.len() {
+        if numbers[place] <= numbers[place - 1] {
+            return false;
+        }
+    }
+    true
+}
+
+fn put_keys(keys: &KeyRows<'_>, given: &mut String) -> Result<(), CaseError>
+    requires { AreInRange keys.now.table.now keys.now.rows.now keys.now.columns.now }
+{
+    given.push_str("kinds")?;
+    for place in 0..keys.columns.len() {
+        write!(given, " {:?}", keys.kind(place))?;
+    }
+    given.push('\n')?;
+    for item in 0..keys.rows.len() {
+        given.push_str("key")?;
+        for place in 0..keys.columns.len() {
+            given.push(' ')?;
+            put_cell(keys.cell(item, place), given)?;
+        }
+        given.push('\n')?;
+    }
+    Ok(())
+}
+
+fn put_finds<R: Threads + Sync>(
+    rt: &R,
+    alloc: Global,
+    keys: &KeyRows<'_>,
+    parts: &Entry,
+    finds: &[Entry],
+    given: &mut String,
+) -> Result<(), CaseError>
+    requires { AreInRange keys.now.table.now keys.now.rows.now keys.now.columns.now }
+{
+    let parts = number_of(Some(parts.rest.as_str()))?;
+    if parts < 1 || 64 < parts || !rises(keys.rows) {
+        return Err(CaseError::Range);
+    }
+    let build = Build::make(rt, alloc, keys, parts)?;
+    put_all(alloc, &build, finds, given)
+}
+
+// Workers look up in one build.
+fn is_shared<T: Send + Sync>(_shared: &T) {}
+
+// The rows that each key finds.
+fn put_all(
+    alloc: Global,
+    build: &Build,
+    finds: &[Entry],
+    given: &mut String,
+) -> Result<(), CaseError> {
+    is_shared(build);
+    for find in finds {
+        put_found(alloc, build, find.rest.as_str(), given)?;
+    }
+    Ok(())
+}
+
+fn put_found(alloc: Global, build: &Build, key: &str, given: &mut String) -> Result<(), CaseError> {
+    let values = values_of(alloc, key)?;
+    let mut cells = Vec::new(alloc);
+    for value in &values {
+        cells.push(cell_of(value))?;
+    }
+    let found = build.matches(&cells);
+    writeln!(given, "{found:?}")?;
+    Ok(())
+}

@@ -1,0 +1,48 @@
+// Sets of rows.
+use crate::numbers::numbers_of;
+use case_text::{CaseError, Entry, number_of};
+use column_table::RowBits;
+use std::alloc::Global;
+use std::fmt::Write;
+
+/// Puts what a set of so many rows has, once rows are taken into it, and then whether it has those that are asked for.
+pub fn put_bits(
+    alloc: Global,
+    rows: &str,
+    entries: &[Entry],
+    given: &mut String,
+) -> Result<(), CaseError> {
+    let mut bits = RowBits::none(alloc, number_of(Some(rows))?)?;
+    for entry in entries {
+        let rows = numbers_of(alloc, entry.rest.as_str())?;
+        match entry.word.as_str() {
+            "set" => set_rows(&mut bits, &rows)?,
+            "get" => get_rows(&bits, &rows, given)?,
+            _ => return Err(CaseError::Word),
+        }
+    }
+    let listed = bits.listed(alloc)?;
+    let listed = listed.as_slice();
+    writeln!(given, "{} of {}: {listed:?}", bits.count(), bits.rows())?;
+    Ok(())
+}
+
+fn set_rows(bits: &mut RowBits, rows: &[u32]) -> Result<(), CaseError> {
+    for row in rows {
+        if *row >= bits.rows() {
+            return Err(CaseError::Range);
+        }
+        bits.set(*row);
+    }
+    Ok(())
+}
+
+fn get_rows(bits: &RowBits, rows: &[u32], given: &mut String) -> Result<(), CaseError> {
+    for row in rows {
+        if *row >= bits.rows() {
+            return Err(CaseError::Range);
+        }
+        writeln!(given, "{}", bits.get(*row))?;
+    }
+    Ok(())
+}
