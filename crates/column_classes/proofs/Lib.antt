@@ -1,7 +1,7 @@
-pub mod ClassFacts
-pub mod LabelFacts
-pub mod OrderedLists
-pub mod PairFacts
+mod ClassFacts
+mod LabelFacts
+mod OrderedLists
+mod PairFacts
 pub mod PlaceFacts
-pub mod SetFacts
+mod SetFacts
 pub mod Unique

@@ -11,6 +11,3 @@ mod variables;
 
 pub use columns::{ColumnRef, Equality};
 pub use variables::Variables;
-
-#[cfg(test)]
-mod tests;

@@ -1,6 +1,6 @@
-pub mod BitFacts
-pub mod ColumnFacts
-pub mod CountFacts
+mod BitFacts
+mod ColumnFacts
+mod CountFacts
 pub mod ListFacts
-pub mod RowFacts
-pub mod TextFacts
+mod RowFacts
+mod TextFacts

@@ -18,6 +18,3 @@ pub use builder::TableBuilder;
 pub use declared::{ColumnDecl, Decl};
 pub use row_bits::RowBits;
 pub use table::Table;
-
-#[cfg(test)]
-mod tests;

@@ -1,7 +1,7 @@
-pub mod FirstRefusals
-pub mod LeftFacts
-pub mod MachineFacts
-pub mod NumberFacts
-pub mod PlaceFacts
-pub mod RowFacts
-pub mod ValueFacts
+mod FirstRefusals
+mod LeftFacts
+mod MachineFacts
+mod NumberFacts
+mod PlaceFacts
+mod RowFacts
+mod ValueFacts

@@ -13,6 +13,3 @@ mod refusal;
 
 pub use loading::load;
 pub use refusal::LoadError;
-
-#[cfg(test)]
-mod tests;

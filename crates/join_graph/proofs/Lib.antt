@@ -2,9 +2,9 @@ pub mod JoinChecks
 pub mod ListFacts
 pub mod MemberFacts
 pub mod NeededFacts
-pub mod NeededSteps
-pub mod StoredFacts
+mod NeededSteps
+mod StoredFacts
 pub mod SumFacts
-pub mod TreeFacts
+mod TreeFacts
 pub mod WeightFacts
 pub mod WorkedRows

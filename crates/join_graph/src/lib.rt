@@ -15,6 +15,3 @@ mod tree;
 
 pub use graph::Graph;
 pub use tree::{Link, Tree};
-
-#[cfg(test)]
-mod tests;

@@ -1,2 +1,2 @@
 pub mod KeyFacts
-pub mod TypeFacts
+mod TypeFacts

@@ -7,6 +7,3 @@
 mod keys;
 
 pub use keys::KeyRows;
-
-#[cfg(test)]
-mod tests;

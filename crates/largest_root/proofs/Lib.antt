@@ -1,12 +1,12 @@
-pub mod BestFacts
-pub mod ChainFacts
-pub mod ExchangeFacts
+mod BestFacts
+mod ChainFacts
+mod ExchangeFacts
 pub mod GreatestFacts
 pub mod GreedyChecks
-pub mod GrowthFacts
+mod GrowthFacts
 pub mod HeaviestFacts
 pub mod JoinFacts
 pub mod ListedFacts
 pub mod OneList
-pub mod TreeFacts
+mod TreeFacts
 pub mod WorkedRows

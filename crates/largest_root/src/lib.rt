@@ -18,6 +18,3 @@ mod tree;
 
 pub use errors::TreeError;
 pub use tree::{grow, join_tree};
-
-#[cfg(test)]
-mod tests;

@@ -1,3 +1,3 @@
-pub mod LikeFacts
-pub mod MarkFacts
+mod LikeFacts
+mod MarkFacts
 pub mod TruthFacts

@@ -15,6 +15,3 @@ pub use selection::select;
 pub use tree::{Op, Operand, Pred};
 pub use truth::holds;
 pub use typing::is_typed;
-
-#[cfg(test)]
-mod tests;

@@ -1,2 +1,2 @@
-pub mod ListFacts
+mod ListFacts
 pub mod NameFacts

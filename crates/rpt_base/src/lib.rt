@@ -19,6 +19,3 @@ pub use names::Name;
 pub use sets::RelSet;
 pub use texts::{Memory, Str, StrError};
 pub use values::{Cell, ColumnType, Value};
-
-#[cfg(test)]
-mod tests;

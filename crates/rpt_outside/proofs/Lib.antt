@@ -1,4 +1,4 @@
-pub mod Copies
-pub mod Places
-pub mod Reading
-pub mod Writing
+mod Copies
+mod Places
+mod Reading
+mod Writing

@@ -19,6 +19,3 @@ pub use memory_sink::MemorySink;
 pub use stream::StreamSink;
 pub use traits::{Failed, Files, Gate, OpenGate, Sink};
 pub use whole::{ReadError, read_whole};
-
-#[cfg(test)]
-mod tests;

@@ -1,5 +1,5 @@
 pub mod OneList
-pub mod OrderFacts
+mod OrderFacts
 pub mod PrefixFacts
-pub mod SetFacts
-pub mod WorkedRows
+mod SetFacts
+mod WorkedRows

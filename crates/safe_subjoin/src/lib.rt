@@ -16,6 +16,3 @@ mod sets;
 pub use errors::{OrderError, SetError};
 pub use orders::{safe_lists, safe_order};
 pub use sets::safe_set;
-
-#[cfg(test)]
-mod tests;

@@ -21,6 +21,3 @@ pub use named::first_relation;
 pub use operands::column_of;
 pub use refusal::first_fault;
 pub use scope::{columns_of, is_same, meaning, name_of};
-
-#[cfg(test)]
-mod tests;

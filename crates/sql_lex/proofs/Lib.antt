@@ -1,10 +1,10 @@
-pub mod Answered
-pub mod BytesRuns
-pub mod Found
-pub mod LowerCase
-pub mod Marks
-pub mod Standing
-pub mod Steps
-pub mod Texts
-pub mod TokenLaws
-pub mod WellFormed
+mod Answered
+mod BytesRuns
+mod Found
+mod LowerCase
+mod Marks
+mod Standing
+mod Steps
+mod Texts
+mod TokenLaws
+mod WellFormed

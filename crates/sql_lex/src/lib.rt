@@ -14,6 +14,3 @@ mod tokens;
 pub use laws::tokens_are_read;
 pub use lexing::lex;
 pub use tokens::{LexError, Mark, Token, TokenKind};
-
-#[cfg(test)]
-mod tests;

@@ -1,10 +1,10 @@
-pub mod Putting
-pub mod CondPieces
-pub mod Lexed
-pub mod Derives
-pub mod Operands
-pub mod Conds
-pub mod Nested
-pub mod Reread
-pub mod ReadBack
-pub mod Levels
+mod Putting
+mod CondPieces
+mod Lexed
+mod Derives
+mod Operands
+mod Conds
+mod Nested
+mod Reread
+mod ReadBack
+mod Levels

@@ -9,6 +9,3 @@ mod pieces;
 mod printing;
 
 pub use printing::{print, read_scripts_print};
-
-#[cfg(test)]
-mod tests;
