@@ -1,17 +1,16 @@
 // The conditions of syntax trees.
-use case_text::CaseError;
+use case_text::put;
 use rpt_base::Value;
 use sql_text::{ColumnName, Cond, Expr, Op};
-use std::fmt::Write;
 
 /// Puts a condition. A place stands before each test and each operand that has one.
 #[cycle(cond)]
-pub fn put_cond(cond: &Cond, given: &mut String) -> Result<(), CaseError> {
+pub fn put_cond(cond: &Cond, given: &mut String) {
     match cond {
         Cond::And(members) => put_members("and", members.as_slice(), given),
         Cond::Or(members) => put_members("or", members.as_slice(), given),
         Cond::Not { at, inner } => {
-            write!(given, "{at}:no ")?;
+            put(given, format_args!("{at}:no "));
             put_cond(inner.get(), given)
         }
         other => put_test(other, given),
@@ -19,17 +18,16 @@ pub fn put_cond(cond: &Cond, given: &mut String) -> Result<(), CaseError> {
 }
 
 #[cycle(cond)]
-fn put_members(word: &str, members: &[Cond], given: &mut String) -> Result<(), CaseError> {
-    write!(given, "{word}[")?;
+fn put_members(word: &str, members: &[Cond], given: &mut String) {
+    put(given, format_args!("{word}["));
     for member in members {
-        put_cond(member, given)?;
-        given.push(';')?;
+        put_cond(member, given);
+        put(given, ";");
     }
-    given.push(']')?;
-    Ok(())
+    put(given, "]");
 }
 
-fn put_test(cond: &Cond, given: &mut String) -> Result<(), CaseError> {
+fn put_test(cond: &Cond, given: &mut String) {
     match cond {
         Cond::Compare {
             at,
@@ -37,9 +35,9 @@ fn put_test(cond: &Cond, given: &mut String) -> Result<(), CaseError> {
             left,
             right,
         } => {
-            write!(given, "{at}:{} ", op_text(*op))?;
-            put_expr(left, given)?;
-            given.push(',')?;
+            put(given, format_args!("{at}:{} ", op_text(*op)));
+            put_expr(left, given);
+            put(given, ",");
             put_expr(right, given)
         }
         Cond::Between {
@@ -49,10 +47,10 @@ fn put_test(cond: &Cond, given: &mut String) -> Result<(), CaseError> {
             low,
             high,
         } => {
-            put_head(*at, *negated, "between", operand, given)?;
-            given.push(',')?;
-            put_expr(low, given)?;
-            given.push(',')?;
+            put_head(*at, *negated, "between", operand, given);
+            put(given, ",");
+            put_expr(low, given);
+            put(given, ",");
             put_expr(high, given)
         }
         Cond::InList {
@@ -61,7 +59,7 @@ fn put_test(cond: &Cond, given: &mut String) -> Result<(), CaseError> {
             operand,
             values,
         } => {
-            put_head(*at, *negated, "in", operand, given)?;
+            put_head(*at, *negated, "in", operand, given);
             put_values(values.as_slice(), given)
         }
         Cond::Like {
@@ -70,24 +68,17 @@ fn put_test(cond: &Cond, given: &mut String) -> Result<(), CaseError> {
             operand,
             pattern,
         } => {
-            put_head(*at, *negated, "like", operand, given)?;
-            write!(given, ",'{}'", pattern.as_str())?;
-            Ok(())
+            put_head(*at, *negated, "like", operand, given);
+            put(given, format_args!(",'{}'", pattern.as_str()));
         }
-        _ => Ok(()),
+        _ => {}
     }
 }
 
 // The place of a test, its word, and what is tested.
-fn put_head(
-    at: u32,
-    negated: bool,
-    word: &str,
-    operand: &Expr,
-    given: &mut String,
-) -> Result<(), CaseError> {
+fn put_head(at: u32, negated: bool, word: &str, operand: &Expr, given: &mut String) {
     let not = if negated { "not " } else { "" };
-    write!(given, "{at}:{not}{word} ")?;
+    put(given, format_args!("{at}:{not}{word} "));
     put_expr(operand, given)
 }
 
@@ -102,38 +93,35 @@ fn op_text(op: Op) -> &'static str {
     }
 }
 
-fn put_values(values: &[Value], given: &mut String) -> Result<(), CaseError> {
+fn put_values(values: &[Value], given: &mut String) {
     for value in values {
-        given.push(',')?;
-        put_value(value, given)?;
+        put(given, ",");
+        put_value(value, given);
     }
-    Ok(())
 }
 
-fn put_value(value: &Value, given: &mut String) -> Result<(), CaseError> {
+fn put_value(value: &Value, given: &mut String) {
     match value {
-        Value::Int(number) => write!(given, "{number}")?,
-        Value::Text(written) => write!(given, "'{}'", written.as_str())?,
+        Value::Int(number) => put(given, format_args!("{number}")),
+        Value::Text(written) => put(given, format_args!("'{}'", written.as_str())),
     }
-    Ok(())
 }
 
-fn put_expr(expr: &Expr, given: &mut String) -> Result<(), CaseError> {
+fn put_expr(expr: &Expr, given: &mut String) {
     match expr {
         Expr::Column(column) => put_column(column, given),
         Expr::Literal { at, value } => {
-            write!(given, "{at}:")?;
+            put(given, format_args!("{at}:"));
             put_value(value, given)
         }
     }
 }
 
 /// Puts a column's name, with its place.
-pub fn put_column(column: &ColumnName, given: &mut String) -> Result<(), CaseError> {
-    write!(given, "{}:", column.at)?;
+pub fn put_column(column: &ColumnName, given: &mut String) {
+    put(given, format_args!("{}:", column.at));
     if let Some(relation) = &column.relation {
-        write!(given, "{}.", relation.as_str())?;
+        put(given, format_args!("{}.", relation.as_str()));
     }
-    write!(given, "{}", column.column.as_str())?;
-    Ok(())
+    put(given, column.column.as_str());
 }

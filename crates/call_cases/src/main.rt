@@ -13,22 +13,28 @@ mod trees;
 mod walks;
 
 use anyhow::Result;
-use case_text::{Calls, Case, CaseError, try_cases};
+use case_text::{Calls, Case, CaseError, put, try_cases};
 use sql_text::ParseError;
 use std::alloc::Global;
-use std::fmt::Write;
+use std::thread::Threads;
 
 // The calls of the crates from bytes to bound queries.
 #[derive(Clone, Copy)]
 struct ScriptCalls;
 
 impl Calls for ScriptCalls {
-    fn put_given(&self, alloc: Global, case: &Case, given: &mut String) -> Result<(), CaseError> {
+    fn put_given<R: Threads + Sync>(
+        &self,
+        _rt: &R,
+        alloc: Global,
+        case: &Case,
+        given: &mut String,
+    ) -> Result<(), CaseError> {
         match case.word.as_str() {
             "walks" => walks::put_walks(alloc, case.head.as_str(), given),
             "no_members" => members::put_no_members(alloc, given),
             "no_memory" => {
-                writeln!(given, "{}", ParseError::Memory)?;
+                put(given, format_args!("{}\n", ParseError::Memory));
                 Ok(())
             }
             word => scripts::put_script(alloc, word, &case.whole_text(alloc)?, given),

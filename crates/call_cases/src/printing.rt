@@ -1,11 +1,10 @@
 // Scripts as they are printed.
-use case_text::CaseError;
+use case_text::{CaseError, put};
 use rpt_base::limits::MAX_SCRIPT_BYTES;
 use sql_lex::lex;
 use sql_print::{print, read_scripts_print};
 use sql_text::parse;
 use std::alloc::Global;
-use std::fmt::Write;
 use std::str;
 
 /// Puts a printed script, and what it is where it is read and printed once more, if that differs.
@@ -13,7 +12,7 @@ pub fn put_printed(alloc: Global, text: &[u8], given: &mut String) -> Result<(),
     put_text(text, given)?;
     let again = printed(alloc, text)?;
     if again.as_slice() != text {
-        given.push_str("again ")?;
+        put(given, "again ");
         put_text(again.as_slice(), given)?;
     }
     Ok(())
@@ -22,7 +21,7 @@ pub fn put_printed(alloc: Global, text: &[u8], given: &mut String) -> Result<(),
 fn put_text(text: &[u8], given: &mut String) -> Result<(), CaseError> {
     match str::from_utf8(text) {
         Ok(text) => {
-            writeln!(given, "{text}")?;
+            put(given, format_args!("{text}\n"));
             Ok(())
         }
         Err(_) => Err(CaseError::Range),

@@ -1,77 +1,75 @@
 // Bound queries.
 use binder::{BindError, Bound, ColumnRef};
-use case_text::CaseError;
+use case_text::{CaseError, put};
 use column_table::Table;
 use predicate::is_typed;
 use rpt_base::ColumnType;
 use std::alloc::Global;
-use std::fmt::Write;
 
 /// Puts what a script is bound to: its relations with their linked columns, its written equalities, the columns of each
 /// variable, the variables of each relation, and its titles with their columns.
-pub fn put_bound(bound: Result<Bound, BindError>, given: &mut String) -> Result<(), CaseError> {
+pub fn put_bound(bound: Result<Bound, BindError>, given: &mut String) {
     match bound {
         Ok(bound) => put_query(&bound, given),
         Err(error) => put_refusal(error, given),
     }
 }
 
-fn put_refusal(error: BindError, given: &mut String) -> Result<(), CaseError> {
+fn put_refusal(error: BindError, given: &mut String) {
     match error {
-        BindError::Refused { kind, at } => {
-            writeln!(given, "{kind:?} at {at}")?;
-            Ok(())
-        }
-        BindError::Memory => Err(CaseError::Memory),
+        BindError::Refused { kind, at } => put(given, format_args!("{kind:?} at {at}\n")),
+        BindError::Memory => put(given, "out of memory\n"),
     }
 }
 
-fn put_query(bound: &Bound, given: &mut String) -> Result<(), CaseError> {
+fn put_query(bound: &Bound, given: &mut String) {
     for relation in 0..bound.relations() {
         let alias = bound.alias(relation).as_str();
         let table = bound.decl(bound.table_of(relation)).name.as_str();
         let local = bound.local(relation);
-        writeln!(given, "{alias} of {table} {local:?}")?;
+        put(given, format_args!("{alias} of {table} {local:?}\n"));
     }
-    put_equalities(bound, given)?;
+    put_equalities(bound, given);
     for variable in 0..bound.variables() {
-        put_columns(bound.columns_of(variable), given)?;
+        put_columns(bound.columns_of(variable), given);
     }
-    given.push_str("variables of each")?;
+    put(given, "variables of each");
     for set in bound.var_sets() {
         let set = set.as_slice();
-        write!(given, " {set:?}")?;
+        put(given, format_args!(" {set:?}"));
     }
-    given.push('\n')?;
+    put(given, "\n");
     for column in bound.output() {
         let (relation, number) = (column.source.relation, column.source.column);
         let title = column.title.as_str();
-        writeln!(given, "{title}={relation}.{number}")?;
+        put(given, format_args!("{title}={relation}.{number}\n"));
     }
-    Ok(())
 }
 
-fn put_equalities(bound: &Bound, given: &mut String) -> Result<(), CaseError> {
-    given.push_str("equal")?;
+fn put_equalities(bound: &Bound, given: &mut String) {
+    put(given, "equal");
     for equality in bound.equalities() {
         let (left, right) = (equality.left, equality.right);
-        write!(
+        put(
             given,
-            " {}.{}={}.{}",
-            left.relation, left.column, right.relation, right.column
-        )?;
+            format_args!(
+                " {}.{}={}.{}",
+                left.relation, left.column, right.relation, right.column
+            ),
+        );
     }
-    given.push('\n')?;
-    Ok(())
+    put(given, "\n");
 }
 
-fn put_columns(columns: &[ColumnRef], given: &mut String) -> Result<(), CaseError> {
-    given.push_str("variable")?;
+fn put_columns(columns: &[ColumnRef], given: &mut String) {
+    put(given, "variable");
     for column in columns {
-        write!(given, " {}.{}", column.relation, column.column)?;
+        put(
+            given,
+            format_args!(" {}.{}", column.relation, column.column),
+        );
     }
-    given.push('\n')?;
-    Ok(())
+    put(given, "\n");
 }
 
 /// Puts for each relation whether its condition fits the last relation's table.
@@ -82,7 +80,10 @@ pub fn put_fits(
 ) -> Result<(), CaseError> {
     match bound {
         Ok(bound) => put_fitting(alloc, &bound, given),
-        Err(error) => put_refusal(error, given),
+        Err(error) => {
+            put_refusal(error, given);
+            Ok(())
+        }
     }
 }
 
@@ -97,7 +98,7 @@ fn put_fitting(alloc: Global, bound: &Bound, given: &mut String) -> Result<(), C
     for relation in 0..bound.relations() {
         let alias = bound.alias(relation).as_str();
         let fits = is_typed(bound.pred(relation), &table);
-        writeln!(given, "{alias} {fits}")?;
+        put(given, format_args!("{alias} {fits}\n"));
     }
     Ok(())
 }

@@ -1,16 +1,19 @@
 // What is asked of a script, from its bytes on.
+ghost use Rattle.std.specs.Prelude.{◌≤◌, length};
+ghost use Rattle.sql_text.specs.Formed.{IsWellFormed};
+ghost use Rattle.sql_print.specs.Printed.{script_levels};
+
 use crate::printing::put_printed;
 use crate::queries::{put_bound, put_fits};
 use crate::tokens::put_tokens;
 use crate::trees::put_tree;
 use binder::{bind, first_fault};
-use case_text::CaseError;
+use case_text::{CaseError, put};
 use rpt_base::limits::MAX_SCRIPT_BYTES;
 use sql_lex::{LexError, Token, lex};
 use sql_print::{print, read_scripts_print};
 use sql_text::{Script, parse};
 use std::alloc::Global;
-use std::fmt::Write;
 
 /// Puts what a script's tokens, tree, print, first refusal or bound query is, by the call's word.
 pub fn put_script(
@@ -23,10 +26,13 @@ pub fn put_script(
         return Err(CaseError::Range);
     }
     match lex(alloc, script) {
-        Ok(tokens) if word == "tokens" => put_tokens(&tokens, given),
+        Ok(tokens) if word == "tokens" => {
+            put_tokens(&tokens, given);
+            Ok(())
+        }
         Ok(tokens) => put_parsed(alloc, word, &tokens, script.len() as u32, given),
         Err(LexError::At { offset }) => {
-            writeln!(given, "bad at {offset}")?;
+            put(given, format_args!("bad at {offset}\n"));
             Ok(())
         }
         Err(LexError::Memory) => Err(CaseError::Memory),
@@ -42,26 +48,34 @@ fn put_parsed(
     given: &mut String,
 ) -> Result<(), CaseError> {
     read_scripts_print();
-    let script = match parse(alloc, tokens, end) {
-        Ok(script) => script,
+    match parse(alloc, tokens, end) {
+        Ok(script) => put_read(alloc, word, &script, given),
         Err(error) => {
-            writeln!(given, "{error}")?;
-            return Ok(());
+            put(given, format_args!("{error}\n"));
+            Ok(())
         }
-    };
-    match word {
-        "tree" => put_tree(&script, given),
-        "print" => put_printed(alloc, &print(alloc, &script)?, given),
-        "fault" => put_fault(&script, given),
-        "bind" => put_bound(bind(alloc, &script), given),
-        "fits" => put_fits(alloc, bind(alloc, &script), given),
-        _ => Err(CaseError::Word),
     }
 }
 
-fn put_fault(script: &Script, given: &mut String) -> Result<(), CaseError> {
-    if let Some(fault) = first_fault(script) {
-        writeln!(given, "{:?} at {}", fault.kind, fault.at)?;
+// What is asked of a script that was read.
+fn put_read(alloc: Global, word: &str, script: &Script, given: &mut String) -> Result<(), CaseError>
+    requires well_formed { IsWellFormed script.now }
+    requires levels { script_levels script.now ≤ 64 }
+    requires sources { 1 ≤ length script.now.select.sources }
+{
+    match word {
+        "tree" => put_tree(script, given),
+        "print" => return put_printed(alloc, &print(alloc, script)?, given),
+        "fault" => put_fault(script, given),
+        "bind" => put_bound(bind(alloc, script), given),
+        "fits" => return put_fits(alloc, bind(alloc, script), given),
+        _ => return Err(CaseError::Word),
     }
     Ok(())
+}
+
+fn put_fault(script: &Script, given: &mut String) {
+    if let Some(fault) = first_fault(script) {
+        put(given, format_args!("{:?} at {}\n", fault.kind, fault.at));
+    }
 }

@@ -1,72 +1,75 @@
 // Syntax trees.
 use crate::conditions::{put_column, put_cond};
-use case_text::CaseError;
+use case_text::put;
 use rpt_base::ColumnType;
 use sql_text::{CreateTable, Items, Script, Select, Source};
-use std::fmt::Write;
 
 /// Puts a script's tree in one line. A bar stands behind each table, the list of items and each source, and a place before
 /// each name.
-pub fn put_tree(script: &Script, given: &mut String) -> Result<(), CaseError> {
+pub fn put_tree(script: &Script, given: &mut String) {
     for table in script.tables.as_slice() {
-        put_table(table, given)?;
+        put_table(table, given);
     }
-    put_select(&script.select, given)?;
-    given.push('\n')?;
-    Ok(())
+    put_select(&script.select, given);
+    put(given, "\n");
 }
 
-fn put_table(table: &CreateTable, given: &mut String) -> Result<(), CaseError> {
-    write!(given, "{}:{}(", table.at, table.name.as_str())?;
+fn put_table(table: &CreateTable, given: &mut String) {
+    put(given, format_args!("{}:{}(", table.at, table.name.as_str()));
     for column in table.columns.as_slice() {
         let kind = match column.kind {
             ColumnType::Int => "int",
             ColumnType::Text => "text",
         };
-        write!(given, "{}:{} {kind},", column.at, column.name.as_str())?;
+        put(
+            given,
+            format_args!("{}:{} {kind},", column.at, column.name.as_str()),
+        );
     }
-    given.push_str(")|")?;
-    Ok(())
+    put(given, ")|");
 }
 
-fn put_select(select: &Select, given: &mut String) -> Result<(), CaseError> {
-    put_items(&select.items, given)?;
+fn put_select(select: &Select, given: &mut String) {
+    put_items(&select.items, given);
     for source in select.sources.as_slice() {
-        put_source(source, given)?;
+        put_source(source, given);
     }
     if let Some(filter) = &select.filter {
-        given.push_str("where ")?;
-        put_cond(filter, given)?;
+        put(given, "where ");
+        put_cond(filter, given);
     }
-    Ok(())
 }
 
-fn put_items(items: &Items, given: &mut String) -> Result<(), CaseError> {
+fn put_items(items: &Items, given: &mut String) {
     match items {
-        Items::Star => given.push_str("*")?,
+        Items::Star => put(given, "*"),
         Items::List(items) => {
             for item in items.as_slice() {
-                put_column(&item.column, given)?;
+                put_column(&item.column, given);
                 if let Some(title) = &item.title {
-                    write!(given, " as {}", title.as_str())?;
+                    put(given, format_args!(" as {}", title.as_str()));
                 }
-                given.push(',')?;
+                put(given, ",");
             }
         }
     }
-    given.push('|')?;
-    Ok(())
+    put(given, "|");
 }
 
-fn put_source(source: &Source, given: &mut String) -> Result<(), CaseError> {
-    write!(given, "{}:{}", source.at, source.table.as_str())?;
+fn put_source(source: &Source, given: &mut String) {
+    put(
+        given,
+        format_args!("{}:{}", source.at, source.table.as_str()),
+    );
     if let Some(alias) = &source.alias {
-        write!(given, " as {}:{}", alias.at, alias.name.as_str())?;
+        put(
+            given,
+            format_args!(" as {}:{}", alias.at, alias.name.as_str()),
+        );
     }
     if let Some(on) = &source.on {
-        given.push_str(" on ")?;
-        put_cond(on, given)?;
+        put(given, " on ");
+        put_cond(on, given);
     }
-    given.push('|')?;
-    Ok(())
+    put(given, "|");
 }

@@ -2,9 +2,8 @@
 ghost use Rattle.std.specs.Prelude.{◌<◌};
 
 use crate::printing::printed;
-use case_text::{CaseError, number_of};
+use case_text::{CaseError, number_of, put};
 use std::alloc::Global;
-use std::fmt::Write;
 
 // A number that says which way is taken where several are open.
 #[derive(Drop)]
@@ -50,7 +49,7 @@ pub fn put_walks(alloc: Global, numbers: &str, given: &mut String) -> Result<(),
             same = same.saturating_add(1);
         }
     }
-    writeln!(given, "{same} are read back")?;
+    put(given, format_args!("{same} are read back\n"));
     Ok(())
 }
 
@@ -60,25 +59,25 @@ fn is_read_back(alloc: Global, number: u64) -> Result<bool, CaseError> {
         alloc,
         "CREATE TABLE t (a INT); SELECT a, t.b AS z FROM t, u AS v WHERE ",
     )?;
-    put_cond(&mut walk, LEVELS, &mut script)?;
+    put_cond(&mut walk, LEVELS, &mut script);
     let text = printed(alloc, script.as_bytes())?;
     let again = printed(alloc, &text)?;
     Ok(again == text)
 }
 
-fn put_cond(walk: &mut Walk, levels: u32, text: &mut String) -> Result<(), CaseError> {
+fn put_cond(walk: &mut Walk, levels: u32, text: &mut String) {
     let way = walk.way();
     if levels == 0 || way < 2 {
-        text.push_str(TESTS[walk.way()])?;
-        return Ok(());
+        put(text, TESTS[walk.way()]);
+        return;
     }
     if way < 4 {
-        text.push_str(if way == 2 { "(" } else { "NOT (" })?;
-        put_cond(walk, levels - 1, text)?;
-        text.push_str(")")?;
-        return Ok(());
+        put(text, if way == 2 { "(" } else { "NOT (" });
+        put_cond(walk, levels - 1, text);
+        put(text, ")");
+        return;
     }
-    put_cond(walk, levels - 1, text)?;
-    text.push_str(if way < 6 { " AND " } else { " OR " })?;
-    put_cond(walk, levels - 1, text)
+    put_cond(walk, levels - 1, text);
+    put(text, if way < 6 { " AND " } else { " OR " });
+    put_cond(walk, levels - 1, text);
 }

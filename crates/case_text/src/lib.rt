@@ -10,6 +10,7 @@
 mod case;
 mod errors;
 mod escapes;
+mod given;
 mod lines;
 mod texts;
 mod trying;
@@ -17,6 +18,7 @@ mod trying;
 pub use case::{Case, Entry, read_case};
 pub use errors::CaseError;
 pub use escapes::put_text;
-pub use lines::{Line, line_of, number_of};
+pub use given::put;
+pub use lines::{Line, line_of, number_of, numbers_of};
 pub use texts::put_line;
 pub use trying::{Calls, Counts, try_cases};

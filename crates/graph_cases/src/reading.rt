@@ -22,12 +22,3 @@ fn numbers_between(alloc: Global, set: &str) -> Result<Vec<u32>, CaseError> {
     }
     Ok(numbers)
 }
-
-/// Numbers with a blank between two.
-pub fn numbers_of(alloc: Global, text: &str) -> Result<Vec<u32>, CaseError> {
-    let mut numbers = Vec::new(alloc);
-    for number in text.split_whitespace() {
-        numbers.push(number_of(Some(number))?)?;
-    }
-    Ok(numbers)
-}

@@ -1,9 +1,7 @@
 // What relations share.
-use crate::reading::numbers_of;
-use case_text::{CaseError, Entry};
+use case_text::{CaseError, Entry, numbers_of, put};
 use join_graph::Graph;
 use std::alloc::Global;
-use std::fmt::Write;
 
 /// Puts how many relations there are, the set of all, and what a join list weighs; and then, for each line `pair`, what two
 /// relations share.
@@ -14,7 +12,10 @@ pub fn put_graph(
     given: &mut String,
 ) -> Result<(), CaseError> {
     let (relations, all, needed) = (graph.relations(), graph.all().0, graph.needed());
-    writeln!(given, "relations {relations} all {all} needed {needed}")?;
+    put(
+        given,
+        format_args!("relations {relations} all {all} needed {needed}\n"),
+    );
     for entry in entries {
         if entry.word.as_str() != "pair" {
             return Err(CaseError::Word);
@@ -44,6 +45,6 @@ fn put_pair(
     let weight = graph.weight(*i, *j);
     let shared = graph.shared(alloc, *i, *j)?;
     let shared = shared.as_slice();
-    writeln!(given, "weight {weight} shared {shared:?}")?;
+    put(given, format_args!("weight {weight} shared {shared:?}\n"));
     Ok(())
 }

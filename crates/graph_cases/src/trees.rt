@@ -2,16 +2,14 @@
 ghost use Rattle.std.specs.Prelude.{IfOk};
 ghost use Rattle.join_graph.specs.JoinList.{IsAcyclic};
 
-use crate::reading::numbers_of;
 use crate::sets::is_set_of;
-use case_text::{CaseError, Entry};
+use case_text::{CaseError, Entry, numbers_of, put};
 use join_graph::{Graph, Tree};
 use largest_root::{TreeError, grow, join_tree};
 use rpt_base::RelSet;
 use rpt_base::limits::MAX_RELATIONS;
 use safe_subjoin::{SetError, safe_set};
 use std::alloc::Global;
-use std::fmt::Write;
 
 const SIZES: [u32; MAX_RELATIONS as usize] = [0; MAX_RELATIONS as usize];
 
@@ -30,13 +28,13 @@ pub fn put_join_trees(
         match join_tree(alloc, graph, &sizes) {
             Ok(tree) => {
                 let weight = graph.tree_weight(&tree);
-                put_tree(&tree, given)?;
-                writeln!(given, "weight {weight}")?;
+                put_tree(&tree, given);
+                put(given, format_args!("weight {weight}\n"));
             }
-            Err(TreeError::Cyclic { best, needed }) => writeln!(
+            Err(TreeError::Cyclic { best, needed }) => put(
                 given,
-                "cyclic {best} of {needed}"
-            )?,
+                format_args!("cyclic {best} of {needed}\n"),
+            ),
             Err(TreeError::Memory) => return Err(CaseError::Memory),
         }
     }
@@ -72,20 +70,23 @@ pub fn put_grown(
     } else {
         grow(alloc, graph, &sizes, &[first, graph.all()])?
     };
-    put_tree(&tree, given)?;
-    put_weights(graph, &tree, given)
+    put_tree(&tree, given);
+    put_weights(graph, &tree, given);
+    Ok(())
 }
 
 // The weights of the links of a tree that needn't be a join list.
-fn put_weights(graph: &Graph, tree: &Tree, given: &mut String) -> Result<(), CaseError> {
-    given.push_str("weights")?;
+fn put_weights(graph: &Graph, tree: &Tree, given: &mut String) {
+    put(given, "weights");
     for link in tree.links.as_slice() {
         if link.child < graph.relations() && link.parent < graph.relations() {
-            write!(given, " {}", graph.weight(link.child, link.parent))?;
+            put(
+                given,
+                format_args!(" {}", graph.weight(link.child, link.parent)),
+            );
         }
     }
-    given.push('\n')?;
-    Ok(())
+    put(given, "\n");
 }
 
 // The set of the relations of a line `set`.
@@ -118,8 +119,8 @@ pub fn put_safe(
             return Err(CaseError::Range);
         }
         match safe_set(alloc, graph, set) {
-            Ok(tree) => put_tree(&tree, given)?,
-            Err(SetError::Unsafe) => writeln!(given, "unsafe")?,
+            Ok(tree) => put_tree(&tree, given),
+            Err(SetError::Unsafe) => put(given, "unsafe\n"),
             Err(SetError::Memory) => return Err(CaseError::Memory),
         }
     }
@@ -137,11 +138,10 @@ fn has_tree(alloc: Global, graph: &Graph) -> Result<(), CaseError>
 }
 
 // The root, and each further relation with its parent.
-fn put_tree(tree: &Tree, given: &mut String) -> Result<(), CaseError> {
-    write!(given, "{}", tree.root)?;
+fn put_tree(tree: &Tree, given: &mut String) {
+    put(given, tree.root);
     for link in tree.links.as_slice() {
-        write!(given, " {}>{}", link.child, link.parent)?;
+        put(given, format_args!(" {}>{}", link.child, link.parent));
     }
-    given.push('\n')?;
-    Ok(())
+    put(given, "\n");
 }

@@ -8,10 +8,10 @@ mod sinks;
 mod writers;
 
 use anyhow::Result;
-use case_text::{Calls, Case, CaseError, number_of, try_cases};
+use case_text::{Calls, Case, CaseError, number_of, put, try_cases};
 use rpt_outside::{Gate, OpenGate};
 use std::alloc::Global;
-use std::fmt::Write;
+use std::thread::Threads;
 
 // The calls of what lies outside of the program.
 #[derive(Clone, Copy)]
@@ -20,7 +20,13 @@ struct OutsideCalls {
 }
 
 impl Calls for OutsideCalls {
-    fn put_given(&self, alloc: Global, case: &Case, given: &mut String) -> Result<(), CaseError> {
+    fn put_given<R: Threads + Sync>(
+        &self,
+        _rt: &R,
+        alloc: Global,
+        case: &Case,
+        given: &mut String,
+    ) -> Result<(), CaseError> {
         let (head, entries) = (case.head.as_str(), case.entries.as_slice());
         match case.word.as_str() {
             "memory_files" => reads::put_memory(alloc, head, entries, given),
@@ -39,7 +45,7 @@ fn put_gate(head: &str, given: &mut String) -> Result<(), CaseError> {
     let mut words = head.split_whitespace();
     let (round, worker) = (number_of(words.next())?, number_of(words.next())?);
     OpenGate.pass(round, worker);
-    writeln!(given, "passed")?;
+    put(given, "passed\n");
     Ok(())
 }
 

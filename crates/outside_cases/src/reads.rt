@@ -1,8 +1,7 @@
 // Files that are read.
-use case_text::{CaseError, Entry, number_of, put_text};
+use case_text::{CaseError, Entry, number_of, put, put_text};
 use rpt_outside::{Failed, Files, FolderFiles, MemoryFiles, ReadError, read_whole};
 use std::alloc::Global;
-use std::fmt::Write;
 use std::str;
 
 /// Puts what calls of files in memory answer. Lines `file` have a name and the bytes of each, and lines `fail` the numbers of
@@ -74,10 +73,10 @@ fn put_calls<F: Files>(
         let rest = entry.rest.as_str();
         match entry.word.as_str() {
             "file" | "fail" => {}
-            "start" => put_started(files.start_file(&bytes_of(alloc, rest)?), given)?,
+            "start" => put_started(files.start_file(&bytes_of(alloc, rest)?), given),
             "read" => {
                 let read = files.read(&mut into);
-                put_read(read, &into, given)?;
+                put_read(read, &into, given);
             }
             "whole" => put_whole(alloc, files, rest, given)?,
             _ => return Err(CaseError::Word),
@@ -87,22 +86,17 @@ fn put_calls<F: Files>(
 }
 
 /// Puts whether a call failed.
-pub fn put_started(answer: Result<(), Failed>, given: &mut String) -> Result<(), CaseError> {
+pub fn put_started(answer: Result<(), Failed>, given: &mut String) {
     match answer {
-        Ok(()) => given.push_str("ok\n")?,
-        Err(Failed) => given.push_str("failed\n")?,
+        Ok(()) => put(given, "ok\n"),
+        Err(Failed) => put(given, "failed\n"),
     }
-    Ok(())
 }
 
-fn put_read(
-    answer: Result<usize, Failed>,
-    into: &[u8],
-    given: &mut String,
-) -> Result<(), CaseError> {
+fn put_read(answer: Result<usize, Failed>, into: &[u8], given: &mut String) {
     match answer {
         Ok(count) => {
-            write!(given, "{count} ")?;
+            put(given, format_args!("{count} "));
             put_bytes(into, given)
         }
         Err(Failed) => put_started(Err(Failed), given),
@@ -110,13 +104,10 @@ fn put_read(
 }
 
 /// Puts bytes that are text.
-pub fn put_bytes(bytes: &[u8], given: &mut String) -> Result<(), CaseError> {
+pub fn put_bytes(bytes: &[u8], given: &mut String) {
     match str::from_utf8(bytes) {
-        Ok(text) => {
-            writeln!(given, "{text}")?;
-            Ok(())
-        }
-        Err(_) => Err(CaseError::Range),
+        Ok(text) => put(given, format_args!("{text}\n")),
+        Err(_) => put(given, "not UTF-8\n"),
     }
 }
 
@@ -130,9 +121,9 @@ fn put_whole<F: Files>(
     let (limit, name) = rest.split_once(' ').ok_or(CaseError::Word)?;
     let limit = number_of(Some(limit))?;
     match read_whole(alloc, files, name.as_bytes(), limit) {
-        Ok(bytes) => put_bytes(&bytes, given)?,
-        Err(ReadError::Failed) => given.push_str("failed\n")?,
-        Err(ReadError::TooLarge) => given.push_str("too large\n")?,
+        Ok(bytes) => put_bytes(&bytes, given),
+        Err(ReadError::Failed) => put(given, "failed\n"),
+        Err(ReadError::TooLarge) => put(given, "too large\n"),
         Err(ReadError::Memory) => return Err(CaseError::Memory),
     }
     Ok(())

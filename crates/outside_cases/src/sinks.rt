@@ -18,8 +18,8 @@ pub fn put_memory(
     for entry in entries {
         if entry.word.as_str() == "put" {
             let answer = sink.put(&bytes_of(alloc, entry.rest.as_str())?);
-            put_started(answer, given)?;
-            put_bytes(sink.bytes(), given)?;
+            put_started(answer, given);
+            put_bytes(sink.bytes(), given);
         }
     }
     Ok(())
@@ -52,7 +52,8 @@ pub fn put_dripping(
         });
         put_pieces(alloc, &mut sink, entries, given)?;
     }
-    put_bytes(&taken, given)
+    put_bytes(&taken, given);
+    Ok(())
 }
 
 /// Puts for each line whether its piece failed, of a writer whose writes fail, or else its flushes.
@@ -76,7 +77,7 @@ fn put_pieces<S: Sink>(
 ) -> Result<(), CaseError> {
     for entry in entries {
         let answer = sink.put(&bytes_of(alloc, entry.rest.as_str())?);
-        put_started(answer, given)?;
+        put_started(answer, given);
     }
     Ok(())
 }

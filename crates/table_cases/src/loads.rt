@@ -1,14 +1,8 @@
 // Tables from the bytes of files.
-ghost use Rattle.std.specs.Prelude.{◌≤◌, IfOk, length};
-
-use crate::values::put_cell;
-use case_text::CaseError;
-use column_table::{ColumnDecl, Decl, Table};
-use csv_load::{LoadError, load};
-use rpt_base::limits::MAX_COLUMNS;
-use rpt_base::{ColumnType, Listed, Name};
+use case_tables::{loaded, put_rows};
+use case_text::{CaseError, put};
+use csv_load::LoadError;
 use std::alloc::Global;
-use std::fmt::Write;
 
 /// Puts how many rows the table has that bytes are for a declaration, or why they are none.
 pub fn put_count(
@@ -19,7 +13,7 @@ pub fn put_count(
 ) -> Result<(), CaseError> {
     match loaded(alloc, columns, bytes)? {
         Ok(table) => {
-            writeln!(given, "{}", table.rows())?;
+            put(given, format_args!("{}\n", table.rows()));
             Ok(())
         }
         Err(error) => put_refusal(error, given),
@@ -30,7 +24,7 @@ fn put_refusal(error: LoadError, given: &mut String) -> Result<(), CaseError> {
     if error == LoadError::Memory {
         return Err(CaseError::Memory);
     }
-    writeln!(given, "{error}")?;
+    put(given, format_args!("{error}\n"));
     Ok(())
 }
 
@@ -42,63 +36,10 @@ pub fn put_loaded(
     given: &mut String,
 ) -> Result<(), CaseError> {
     match loaded(alloc, columns, bytes)? {
-        Ok(table) => put_rows(&table, given),
+        Ok(table) => {
+            put_rows(&table, given);
+            Ok(())
+        }
         Err(error) => put_refusal(error, given),
     }
-}
-
-/// The table of bytes for columns as they are declared: a name and a type each, and a comma between two.
-pub fn loaded(
-    alloc: Global,
-    columns: &str,
-    bytes: &[u8],
-) -> Result<Result<Table, LoadError>, CaseError> {
-    let decl = Decl {
-        name: name_of(alloc, "t")?,
-        columns: Listed::from_vec(columns_of(alloc, columns)?),
-    };
-    if decl.columns.as_slice().len() > MAX_COLUMNS as usize {
-        return Err(CaseError::Range);
-    }
-    Ok(load(alloc, bytes, &decl))
-}
-
-fn columns_of(alloc: Global, text: &str) -> Result<Vec<ColumnDecl>, CaseError> {
-    let mut columns = Vec::new(alloc);
-    for column in text.split(',') {
-        let (name, kind) = column.trim().split_once(' ').ok_or(CaseError::Word)?;
-        let kind = kind_of(kind)?;
-        let name = name_of(alloc, name)?;
-        columns.push(ColumnDecl { name, kind })?;
-    }
-    Ok(columns)
-}
-
-fn name_of(alloc: Global, text: &str) -> Result<Name, CaseError> {
-    if !Name::fits(text.as_bytes()) {
-        return Err(CaseError::Range);
-    }
-    Ok(Name::make(alloc, text.as_bytes())?)
-}
-
-fn kind_of(text: &str) -> Result<ColumnType, CaseError> {
-    match text {
-        "INT" => Ok(ColumnType::Int),
-        "TEXT" => Ok(ColumnType::Text),
-        _ => Err(CaseError::Word),
-    }
-}
-
-/// Puts a table's rows, a line for each.
-pub fn put_rows(table: &Table, given: &mut String) -> Result<(), CaseError> {
-    for row in 0..table.rows() {
-        for column in 0..table.columns() {
-            if 0 < column {
-                given.push(' ')?;
-            }
-            put_cell(table.cell(row, column), given)?;
-        }
-        given.push('\n')?;
-    }
-    Ok(())
 }

@@ -1,9 +1,7 @@
 // Sets of rows.
-use crate::numbers::numbers_of;
-use case_text::{CaseError, Entry, number_of};
+use case_text::{CaseError, Entry, number_of, numbers_of, put};
 use column_table::RowBits;
 use std::alloc::Global;
-use std::fmt::Write;
 
 /// Puts what a set of so many rows has, once rows are taken into it, and then whether it has those that are asked for.
 pub fn put_bits(
@@ -23,7 +21,10 @@ pub fn put_bits(
     }
     let listed = bits.listed(alloc)?;
     let listed = listed.as_slice();
-    writeln!(given, "{} of {}: {listed:?}", bits.count(), bits.rows())?;
+    put(
+        given,
+        format_args!("{} of {}: {listed:?}\n", bits.count(), bits.rows()),
+    );
     Ok(())
 }
 
@@ -42,7 +43,7 @@ fn get_rows(bits: &RowBits, rows: &[u32], given: &mut String) -> Result<(), Case
         if *row >= bits.rows() {
             return Err(CaseError::Range);
         }
-        writeln!(given, "{}", bits.get(*row))?;
+        put(given, format_args!("{}\n", bits.get(*row)));
     }
     Ok(())
 }

@@ -1,6 +1,6 @@
 use Rattle.std.proofs.Common.{◌≡◌, arith, below_more, get_or}
 use Rattle.std.specs.List.{Contains}
-use Rattle.table_cases.proofs.orders.has_all.Goals as goal
+use Rattle.build_cases.proofs.orders.has_all.Goals as goal
 
 pub loop-relation-preserved : goal.loop-relation-preserved
 loop-relation-preserved c =

@@ -3,14 +3,12 @@ ghost use Rattle.std.specs.Prelude.{IsTrue};
 ghost use Rattle.std.specs.List.Sorted.{IsStrictlyIncreasing};
 ghost use Rattle.key_codes.specs.Keys.{AreInRange};
 
-use crate::loads::loaded;
-use crate::numbers::numbers_of;
-use crate::values::{cell_of, put_cell, values_of};
-use case_text::{Case, CaseError, Entry, number_of};
+use case_tables::{cell_of, loaded, put_cell, values_of};
+use case_text::{Case, CaseError, Entry, number_of, numbers_of, put};
+use column_table::Table;
 use hash_join::Build;
 use key_codes::KeyRows;
 use std::alloc::Global;
-use std::fmt::Write;
 use std::thread::Threads;
 
 /// Puts the types and the keys of rows of a table, and then the rows that each key finds that is asked for. The first line
@@ -27,18 +25,43 @@ pub fn put_build<R: Threads + Sync>(
     let Ok(table) = loaded(alloc, case.head.as_str(), &case.text)? else {
         return Err(CaseError::Range);
     };
-    let rows = numbers_of(alloc, of.rest.as_str())?;
-    let columns = numbers_of(alloc, by.rest.as_str())?;
+    let lines = Lines {
+        of,
+        by,
+        parts,
+        finds,
+    };
+    put_keys_and_finds(rt, alloc, &table, &lines, given)
+}
+
+// The lines that say more of a build.
+#[derive(Clone, Copy)]
+struct Lines<'a> {
+    of: &'a Entry,
+    by: &'a Entry,
+    parts: &'a Entry,
+    finds: &'a [Entry],
+}
+
+fn put_keys_and_finds<R: Threads + Sync>(
+    rt: &R,
+    alloc: Global,
+    table: &Table,
+    lines: &Lines<'_>,
+    given: &mut String,
+) -> Result<(), CaseError> {
+    let rows = numbers_of(alloc, lines.of.rest.as_str())?;
+    let columns = numbers_of(alloc, lines.by.rest.as_str())?;
     let keys = KeyRows {
-        table: &table,
+        table,
         rows: &rows,
         columns: &columns,
     };
     if !are_in_range(&keys) {
         return Err(CaseError::Range);
     }
-    put_keys(&keys, given)?;
-    put_finds(rt, alloc, &keys, parts, finds, given)
+    put_keys(&keys, given);
+    put_finds(rt, alloc, &keys, lines, given)
 }
 
 // Whether a table has these rows and columns.
@@ -61,41 +84,39 @@ fn rises(numbers: &[u32]) -> bool
     true
 }
 
-fn put_keys(keys: &KeyRows<'_>, given: &mut String) -> Result<(), CaseError>
+fn put_keys(keys: &KeyRows<'_>, given: &mut String)
     requires { AreInRange keys.now.table.now keys.now.rows.now keys.now.columns.now }
 {
-    given.push_str("kinds")?;
+    put(given, "kinds");
     for place in 0..keys.columns.len() {
-        write!(given, " {:?}", keys.kind(place))?;
+        put(given, format_args!(" {:?}", keys.kind(place)));
     }
-    given.push('\n')?;
+    put(given, "\n");
     for item in 0..keys.rows.len() {
-        given.push_str("key")?;
+        put(given, "key");
         for place in 0..keys.columns.len() {
-            given.push(' ')?;
-            put_cell(keys.cell(item, place), given)?;
+            put(given, " ");
+            put_cell(keys.cell(item, place), given);
         }
-        given.push('\n')?;
+        put(given, "\n");
     }
-    Ok(())
 }
 
 fn put_finds<R: Threads + Sync>(
     rt: &R,
     alloc: Global,
     keys: &KeyRows<'_>,
-    parts: &Entry,
-    finds: &[Entry],
+    lines: &Lines<'_>,
     given: &mut String,
 ) -> Result<(), CaseError>
     requires { AreInRange keys.now.table.now keys.now.rows.now keys.now.columns.now }
 {
-    let parts = number_of(Some(parts.rest.as_str()))?;
+    let parts = number_of(Some(lines.parts.rest.as_str()))?;
     if parts < 1 || 64 < parts || !rises(keys.rows) {
         return Err(CaseError::Range);
     }
     let build = Build::make(rt, alloc, keys, parts)?;
-    put_all(alloc, &build, finds, given)
+    put_all(alloc, &build, lines.finds, given)
 }
 
 // Workers look up in one build.
@@ -122,6 +143,6 @@ fn put_found(alloc: Global, build: &Build, key: &str, given: &mut String) -> Res
         cells.push(cell_of(value))?;
     }
     let found = build.matches(&cells);
-    writeln!(given, "{found:?}")?;
+    put(given, format_args!("{found:?}\n"));
     Ok(())
 }

@@ -2,11 +2,10 @@
 ghost use Rattle.std.specs.Prelude.{◌<◌, ℕ, Contains, IsTrue};
 ghost use Rattle.join_laws.specs.Order.{HasEachOnce};
 
-use case_text::CaseError;
+use case_text::{CaseError, numbers_of, put};
 use morsel_pipeline::JoinRun;
 use row_output::ordered;
 use std::alloc::Global;
-use std::fmt::Write;
 use std::thread::Threads;
 
 /// Puts the lists of the answer that a run is, whose relations were joined in this order.
@@ -14,18 +13,19 @@ pub fn put_ordered<R: Threads + Sync>(
     rt: &R,
     alloc: Global,
     run: &JoinRun,
-    order: &[u32],
+    order: &str,
     given: &mut String,
 ) -> Result<(), CaseError> {
-    if !has_each_once(run.width(), order) {
+    let order = numbers_of(alloc, order)?;
+    if !has_each_once(run.width(), &order) {
         return Err(CaseError::Range);
     }
-    let answer = ordered(rt, alloc, run, order)?;
-    write!(given, "answer")?;
+    let answer = ordered(rt, alloc, run, &order)?;
+    put(given, "answer");
     for list in 0..answer.count() {
-        write!(given, " {:?}", answer.row(list))?;
+        put(given, format_args!(" {:?}", answer.row(list)));
     }
-    given.push('\n')?;
+    put(given, "\n");
     Ok(())
 }
 
