@@ -1,1 +1,5 @@
+pub mod Codes
+pub mod Columns
+pub mod Firsts
 pub mod Keys
+pub mod Placement

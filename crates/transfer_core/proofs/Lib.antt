@@ -1,0 +1,14 @@
+mod AllowedFacts
+pub mod AnswerFacts
+pub mod Full
+mod Keeps
+pub mod Lists
+pub mod Masks
+mod PlainFacts
+pub mod Regions
+mod RoomFacts
+mod StepFacts
+pub mod Sums
+mod TakingFacts
+pub mod ValidFacts
+mod WordFacts

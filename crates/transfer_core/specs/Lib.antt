@@ -1,0 +1,10 @@
+pub mod Actors
+pub mod Answers
+pub mod Counts
+pub mod Job
+pub mod Plans
+pub mod Sealed
+pub mod Sound
+pub mod States
+pub mod Steps
+pub mod Words

@@ -1,0 +1,5 @@
+pub mod Kept
+pub mod Laws
+pub mod Layouts
+pub mod Passing
+pub mod TransferPlan
