@@ -1,6 +1,6 @@
 // Tables of three rows, a number and a text each.
 ghost use Rattle.std.specs.Prelude.{◌≡◌, ◌+◌, ◌<◌, ◌∷◌, [], All, IfOk, OnOk, length};
-ghost use Rattle.rpt_base.limits.{MAX_ROWS};
+ghost use Rattle.rpt_base.specs.declared.limits.TheConstants.{MAX_ROWS};
 ghost use Rattle.rpt_base.specs.declared.values.ColumnType.TheVariants as kind;
 
 use case_tables::int_of;
