@@ -9,33 +9,59 @@ mod orders;
 mod pushes;
 mod tables;
 
-use anyhow::Result;
-use case_text::{Calls, Case, CaseError, try_cases};
+use anyhow::{Context, Result};
+use case_text::{Case, CaseError, Counts, read_case};
 use std::alloc::Global;
+use std::fs;
+use std::rt::Files;
 use std::thread::Threads;
 
-// The calls of the crates from tables to tuples.
-#[derive(Clone, Copy)]
-struct BuildCalls;
-
-impl Calls for BuildCalls {
-    fn put_given<R: Threads + Sync>(
-        &self,
-        rt: &R,
-        alloc: Global,
-        case: &Case,
-        given: &mut String,
-    ) -> Result<(), CaseError> {
-        let head = case.head.as_str();
-        match case.word.as_str() {
-            "build" => builds::put_build(rt, alloc, case, given),
-            "push_one" => pushes::put_run(rt, alloc, head, &case.entries, given),
-            "add_counts" => counts::put_sum(head, given),
-            _ => Err(CaseError::Word),
-        }
-    }
+fn main(rt: HostRuntime) -> Result<()> {
+    try_files(&rt)
 }
 
-fn main(rt: HostRuntime) -> Result<()> {
-    try_cases(&rt, &BuildCalls)
+// Some of the calls may start threads, so that the runtime goes with each case.
+fn try_files<R: Files + Print + AllocGlobal + Threads + Sync>(rt: &R) -> Result<()> {
+    let mut counts = Counts::none();
+    let names = fs::read_to_string(rt, "cases.txt")?;
+    for name in names.lines() {
+        let text = fs::read_to_string(rt, name)?;
+        for paragraph in text.split("\n\n") {
+            try_case(rt, rt.alloc(), paragraph, &mut counts).context(format_args!(
+                "{name}: {paragraph}"
+            ))?;
+        }
+    }
+    counts.tell(rt)
+}
+
+// Tries the case of a paragraph, if there is one.
+fn try_case<R: Print + Threads + Sync>(
+    rt: &R,
+    alloc: Global,
+    paragraph: &str,
+    counts: &mut Counts,
+) -> Result<()> {
+    let Some(case) = read_case(alloc, paragraph)? else {
+        return Ok(());
+    };
+    let mut given = String::new(alloc);
+    put_given(rt, alloc, &case, &mut given)?;
+    counts.add(rt, paragraph, &case, given.as_str())
+}
+
+// Puts what a case's call gives.
+fn put_given<R: Threads + Sync>(
+    rt: &R,
+    alloc: Global,
+    case: &Case,
+    given: &mut String,
+) -> Result<(), CaseError> {
+    let head = case.head.as_str();
+    match case.word.as_str() {
+        "build" => builds::put_build(rt, alloc, case, given),
+        "push_one" => pushes::put_run(rt, alloc, head, &case.entries, given),
+        "add_counts" => counts::put_sum(head, given),
+        _ => Err(CaseError::Word),
+    }
 }
