@@ -5,6 +5,7 @@ use Rattle.join_graph.specs.JoinList.{IsAcyclic}
 use Rattle.join_graph.specs.SafeSet.{IsSafe}
 use Rattle.largest_root.specs.Greedy.{IsCyclic}
 use Rattle.safe_subjoin.specs.SafeOrder.{IsFirstUnsafe, IsOrder, first_of}
+use Rattle.transfer_core.specs.Plans.{IsMorsel}
 use Rattle.rpt_engine.specs.declared.errors.PrepareError.{PrepareError}
 use Rattle.rpt_engine.specs.declared.errors.PrepareError.TheVariants.{Cyclic, UnsafeOrder, Memory}
 use Rattle.rpt_engine.specs.declared.options.Options.{Options}
@@ -32,8 +33,10 @@ IsUnprepared vs order force (Cyclic best needed) = IsCyclic vs best needed
 IsUnprepared vs order force (UnsafeOrder prefix) = IsAcyclic vs × IsUnsafeAt vs order force prefix
 IsUnprepared vs order force Memory = Unit {0}
 
--- what an answer rests on: the graph is the query's, which has a join list, and an order that is given has each relation once
+-- what an answer rests on: the graph is the query's, which has a join list, an order that is given has each relation once, and a
+-- morsel is one that a plan can have
 pub record IsReady (bound : BoundQuery) (prepared : Prepared) (options : Options) : Type 0 where
   pub graph : prepared.graph ≡ bound.known.sets
   pub acyclic : IsAcyclic bound.known.sets
   pub order : IfSome options.order (λ order. IsOrder (length bound.known.sets) order)
+  pub morsel : IsMorsel options.morsel
