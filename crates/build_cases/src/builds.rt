@@ -64,8 +64,8 @@ fn put_keys_and_finds<R: Threads + Sync>(
     put_finds(rt, alloc, &keys, lines, given)
 }
 
-// Whether a table has these rows and columns.
-fn are_in_range(keys: &KeyRows<'_>) -> bool
+/// Whether a table has these rows and columns.
+pub fn are_in_range(keys: &KeyRows<'_>) -> bool
     ensures { IsTrue result → AreInRange keys.now.table.now keys.now.rows.now keys.now.columns.now }
 {
     let (rows, columns) = (keys.table.rows(), keys.table.columns());

@@ -4,6 +4,7 @@
 #![tactic(auto)]
 
 mod builds;
+mod codes;
 mod counts;
 mod orders;
 mod pushes;
@@ -60,6 +61,7 @@ fn put_given<R: Threads + Sync>(
     let head = case.head.as_str();
     match case.word.as_str() {
         "build" => builds::put_build(rt, alloc, case, given),
+        "codes" => codes::put_codes(alloc, case, given),
         "push_one" => pushes::put_run(rt, alloc, head, &case.entries, given),
         "add_counts" => counts::put_sum(head, given),
         _ => Err(CaseError::Word),

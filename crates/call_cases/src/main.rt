@@ -16,20 +16,13 @@ use anyhow::Result;
 use case_text::{Calls, Case, CaseError, put, try_cases};
 use sql_text::ParseError;
 use std::alloc::Global;
-use std::thread::Threads;
 
 // The calls of the crates from bytes to bound queries.
 #[derive(Clone, Copy)]
 struct ScriptCalls;
 
 impl Calls for ScriptCalls {
-    fn put_given<R: Threads + Sync>(
-        &self,
-        _rt: &R,
-        alloc: Global,
-        case: &Case,
-        given: &mut String,
-    ) -> Result<(), CaseError> {
+    fn put_given(&self, alloc: Global, case: &Case, given: &mut String) -> Result<(), CaseError> {
         match case.word.as_str() {
             "walks" => walks::put_walks(alloc, case.head.as_str(), given),
             "no_members" => members::put_no_members(alloc, given),

@@ -5,18 +5,11 @@ use anyhow::{Context, Result, ensure};
 use std::alloc::Global;
 use std::fs;
 use std::rt::Files;
-use std::thread::Threads;
 
 /// The calls that cases are asked of.
 pub trait Calls {
-    /// Puts what a case's call gives, in lines. The call may start threads.
-    fn put_given<R: Threads + Sync>(
-        &self,
-        rt: &R,
-        alloc: Global,
-        case: &Case,
-        given: &mut String,
-    ) -> Result<(), CaseError>;
+    /// Puts what a case's call gives, in lines.
+    fn put_given(&self, alloc: Global, case: &Case, given: &mut String) -> Result<(), CaseError>;
 }
 
 /// How many cases gave what they should, and how many didn't.
@@ -63,10 +56,7 @@ impl Counts {
 }
 
 /// Tries the cases of the files that `cases.txt` names. What differs is printed, and at the end how many agree.
-pub fn try_cases<R: Files + Print + AllocGlobal + Threads + Sync, C: Calls>(
-    rt: &R,
-    calls: &C,
-) -> Result<()> {
+pub fn try_cases<R: Files + Print + AllocGlobal, C: Calls>(rt: &R, calls: &C) -> Result<()> {
     let mut counts = Counts::none();
     let names = fs::read_to_string(rt, "cases.txt")?;
     for name in names.lines() {
@@ -81,7 +71,7 @@ pub fn try_cases<R: Files + Print + AllocGlobal + Threads + Sync, C: Calls>(
 }
 
 // Tries the case of a paragraph, if there is one.
-fn try_case<R: Print + Threads + Sync, C: Calls>(
+fn try_case<R: Print, C: Calls>(
     rt: &R,
     alloc: Global,
     calls: &C,
@@ -92,6 +82,6 @@ fn try_case<R: Print + Threads + Sync, C: Calls>(
         return Ok(());
     };
     let mut given = String::new(alloc);
-    calls.put_given(rt, alloc, &case, &mut given)?;
+    calls.put_given(alloc, &case, &mut given)?;
     counts.add(rt, paragraph, &case, given.as_str())
 }

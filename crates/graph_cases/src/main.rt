@@ -14,20 +14,13 @@ use join_graph::Graph;
 use reading::sets_of;
 use sets::is_graph;
 use std::alloc::Global;
-use std::thread::Threads;
 
 // The calls of the crates on graphs.
 #[derive(Clone, Copy)]
 struct GraphCalls;
 
 impl Calls for GraphCalls {
-    fn put_given<R: Threads + Sync>(
-        &self,
-        _rt: &R,
-        alloc: Global,
-        case: &Case,
-        given: &mut String,
-    ) -> Result<(), CaseError> {
+    fn put_given(&self, alloc: Global, case: &Case, given: &mut String) -> Result<(), CaseError> {
         let sets = sets_of(alloc, case.head.as_str())?;
         if !is_graph(&sets) {
             return Err(CaseError::Range);

@@ -11,7 +11,6 @@ use anyhow::Result;
 use case_text::{Calls, Case, CaseError, number_of, put, try_cases};
 use rpt_outside::{Gate, OpenGate};
 use std::alloc::Global;
-use std::thread::Threads;
 
 // The calls of what lies outside of the program.
 #[derive(Clone, Copy)]
@@ -20,13 +19,7 @@ struct OutsideCalls {
 }
 
 impl Calls for OutsideCalls {
-    fn put_given<R: Threads + Sync>(
-        &self,
-        _rt: &R,
-        alloc: Global,
-        case: &Case,
-        given: &mut String,
-    ) -> Result<(), CaseError> {
+    fn put_given(&self, alloc: Global, case: &Case, given: &mut String) -> Result<(), CaseError> {
         let (head, entries) = (case.head.as_str(), case.entries.as_slice());
         match case.word.as_str() {
             "memory_files" => reads::put_memory(alloc, head, entries, given),

@@ -11,20 +11,13 @@ mod values;
 use anyhow::Result;
 use case_text::{Calls, Case, CaseError, try_cases};
 use std::alloc::Global;
-use std::thread::Threads;
 
 // The calls of the crates from bytes to tables.
 #[derive(Clone, Copy)]
 struct TableCalls;
 
 impl Calls for TableCalls {
-    fn put_given<R: Threads + Sync>(
-        &self,
-        _rt: &R,
-        alloc: Global,
-        case: &Case,
-        given: &mut String,
-    ) -> Result<(), CaseError> {
+    fn put_given(&self, alloc: Global, case: &Case, given: &mut String) -> Result<(), CaseError> {
         let head = case.head.as_str();
         match case.word.as_str() {
             "text" => values::put_text(alloc, case, given),

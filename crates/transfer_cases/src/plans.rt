@@ -1,0 +1,113 @@
+// Plans of pipes, as they are written.
+ghost use Rattle.std.specs.Prelude.{◌<◌, All, IsTrue};
+
+use case_text::{CaseError, Entry, number_of, numbers_of};
+use exact_filter::{Exact, RowPlaces};
+use rpt_base::Listed;
+use rpt_engine::AnyPlace;
+use std::alloc::Global;
+use transfer_core::{Pipe, Plan, Port};
+
+// The parts of a plan that were read.
+#[derive(Drop)]
+struct Draft {
+    morsel: u32,
+    words: Vec<u32>,
+    places: Vec<AnyPlace>,
+    pipes: Vec<Pipe>,
+}
+
+/// The plan that lines write: `morsel N`, `words N ..` of each region, for each placement `rows ITEMS` or `codes COUNT CODE ..`, and for
+/// each pipe `pipe ITEMS` and behind it `reads` and `writes` with a region and a placement for each port. Other lines say nothing of it.
+pub fn plan_of(alloc: Global, entries: &[Entry]) -> Result<Plan<AnyPlace>, CaseError> {
+    let mut draft = Draft {
+        morsel: 0,
+        words: Vec::new(alloc),
+        places: Vec::new(alloc),
+        pipes: Vec::new(alloc),
+    };
+    for entry in entries {
+        draft.take(alloc, entry.word.as_str(), entry.rest.as_str())?;
+    }
+    let Draft {
+        morsel,
+        words,
+        places,
+        pipes,
+    } = draft;
+    Ok(Plan {
+        morsel,
+        words: Listed::from_vec(words),
+        places: Listed::from_vec(places),
+        pipes: Listed::from_vec(pipes),
+    })
+}
+
+impl Draft {
+    fn take(&mut self, alloc: Global, word: &str, rest: &str) -> Result<(), CaseError> {
+        match word {
+            "morsel" => self.morsel = number_of(Some(rest))?,
+            "words" => self.words = numbers_of(alloc, rest)?,
+            "rows" => self.add_places(AnyPlace::Rows(RowPlaces::new(number_of(Some(rest))?)))?,
+            "codes" => self.add_codes(alloc, rest)?,
+            "pipe" => self.add_pipe(alloc, number_of(Some(rest))?)?,
+            "reads" => self.set_reads(ports_of(alloc, rest)?),
+            "writes" => self.set_writes(ports_of(alloc, rest)?),
+            _ => {}
+        }
+        Ok(())
+    }
+
+    fn add_places(&mut self, places: AnyPlace) -> Result<(), CaseError> {
+        self.places.push(places)?;
+        Ok(())
+    }
+
+    fn add_codes(&mut self, alloc: Global, rest: &str) -> Result<(), CaseError> {
+        let (count, codes) = rest.split_once(' ').unwrap_or((rest, ""));
+        let count = number_of(Some(count))?;
+        let codes = numbers_of(alloc, codes)?;
+        if codes.len() > 1000 || !are_below(&codes, count) {
+            return Err(CaseError::Range);
+        }
+        self.add_places(AnyPlace::Exact(Exact::new(codes, count)))
+    }
+
+    fn add_pipe(&mut self, alloc: Global, items: u32) -> Result<(), CaseError> {
+        self.pipes.push(Pipe {
+            items,
+            reads: Listed::from_vec(Vec::new(alloc)),
+            writes: Listed::from_vec(Vec::new(alloc)),
+        })?;
+        Ok(())
+    }
+
+    // The ports of the last pipe.
+    fn set_reads(&mut self, ports: Listed<Port>) {
+        if let Some(pipe) = self.pipes.last_mut() {
+            pipe.reads = ports;
+        }
+    }
+
+    fn set_writes(&mut self, ports: Listed<Port>) {
+        if let Some(pipe) = self.pipes.last_mut() {
+            pipe.writes = ports;
+        }
+    }
+}
+
+fn are_below(codes: &[u32], count: u32) -> bool
+    ensures { IsTrue result → All (λ code. code < count) codes.now }
+{
+    codes.iter().all(|code| *code < count)
+}
+
+fn ports_of(alloc: Global, rest: &str) -> Result<Listed<Port>, CaseError> {
+    let mut ports = Vec::new(alloc);
+    for port in rest.split_whitespace() {
+        let (region, places) = port.split_once(':').ok_or(CaseError::Word)?;
+        let (region, places) = (number_of(Some(region))?, number_of(Some(places))?);
+        ports.push(Port { region, places })?;
+    }
+    Ok(Listed::from_vec(ports))
+}
