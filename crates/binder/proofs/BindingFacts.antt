@@ -4,7 +4,7 @@ use Rattle.std.specs.Prelude.{None}
 use Rattle.std.specs.List.{flat_map, range_with_len}
 use Rattle.column_table.specs.declared.declared.Decl.{Decl}
 use Rattle.predicate.specs.declared.tree.Pred.{Pred}
-use Rattle.sql_text.specs.declared.tree.Script.{Script}
+use Rattle.sql_grammar.specs.declared.tree.Script.{Script}
 use Rattle.column_classes.specs.declared.columns.Equality.{Equality}
 use Rattle.bound_query.specs.declared.output.OutColumn.{OutColumn}
 use Rattle.binder.specs.Binding.{condition_of, equality_of, output_of, query_of, table_number, tables_of}

@@ -11,13 +11,13 @@ use Rattle.rpt_base.specs.declared.values.ColumnType.{ColumnType}
 use Rattle.column_table.specs.declared.declared.Decl.{Decl}
 use Rattle.predicate.specs.declared.tree.Pred.{Pred}
 use Rattle.predicate.specs.Truth.{is_typed}
-use Rattle.sql_text.specs.declared.tree.Script.{Script}
-use Rattle.sql_text.specs.declared.tree.ColumnItem.{ColumnItem}
-use Rattle.sql_text.specs.declared.tree.Cond.{Cond}
-use Rattle.sql_text.specs.declared.tree.Item.{Item}
-use Rattle.sql_text.specs.declared.tree.Items.{Items}
-use Rattle.sql_text.specs.declared.tree.Items.TheVariants as items
-use Rattle.sql_text.specs.declared.tree.Source.{Source}
+use Rattle.sql_grammar.specs.declared.tree.Script.{Script}
+use Rattle.sql_grammar.specs.declared.tree.ColumnItem.{ColumnItem}
+use Rattle.sql_grammar.specs.declared.tree.Cond.{Cond}
+use Rattle.sql_grammar.specs.declared.tree.Item.{Item}
+use Rattle.sql_grammar.specs.declared.tree.Items.{Items}
+use Rattle.sql_grammar.specs.declared.tree.Items.TheVariants as items
+use Rattle.sql_grammar.specs.declared.tree.Source.{Source}
 use Rattle.column_classes.specs.declared.columns.ColumnRef.{ColumnRef}
 use Rattle.bound_query.specs.declared.output.OutColumn.{OutColumn}
 use Rattle.script_rules.specs.Scope.{IsWithinLimits, Relation, columns_of, meaning, name_of, relation_of, scope_of}

@@ -4,7 +4,7 @@ use Rattle.std.specs.Prelude.{All, Option, None, Some}
 use Rattle.std.specs.List.{flat_map}
 use Rattle.std.specs.Option.{option_or}
 use Rattle.std.proofs.lemmas.List.Elements.{All-append, All-cons, All-nil, All-tail}
-use Rattle.sql_text.specs.declared.tree.Script.{Script}
+use Rattle.sql_grammar.specs.declared.tree.Script.{Script}
 use Rattle.script_rules.specs.declared.found.Fault.{Fault}
 use Rattle.script_rules.specs.declared.kinds.BindKind.{BindKind}
 use Rattle.script_rules.specs.Scope.{IsWithinLimits, scope_of}

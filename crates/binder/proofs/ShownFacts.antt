@@ -2,10 +2,10 @@
 use Rattle.std.proofs.Common.{◌≡◌, ℕ, List, [], ◌∷◌, map, sym}
 use Rattle.std.specs.List.{enumerate_from, flat_map}
 use Rattle.std.proofs.lemmas.List.Concat.{flat_map_single}
-use Rattle.sql_text.specs.declared.tree.ColumnItem.{ColumnItem}
-use Rattle.sql_text.specs.declared.tree.CreateTable.{CreateTable}
-use Rattle.sql_text.specs.declared.tree.Script.{Script}
-use Rattle.sql_text.specs.declared.tree.Source.{Source}
+use Rattle.sql_grammar.specs.declared.tree.ColumnItem.{ColumnItem}
+use Rattle.sql_grammar.specs.declared.tree.CreateTable.{CreateTable}
+use Rattle.sql_grammar.specs.declared.tree.Script.{Script}
+use Rattle.sql_grammar.specs.declared.tree.Source.{Source}
 use Rattle.bound_query.specs.declared.output.OutColumn.{OutColumn}
 use Rattle.script_rules.specs.Scope.{relation_of, scope_of}
 use Rattle.binder.specs.Binding.{relation_output}

@@ -8,9 +8,9 @@ use Rattle.std.proofs.lemmas.List.Elements.{All-append, All-cons, All-nil}
 use Rattle.std.proofs.lemmas.Option.{get_or_from_slice_get, slice_get_within}
 use Rattle.std.proofs.lemmas.Slice.Eq.{bytes_eq-Decides}
 use Rattle.column_table.specs.declared.declared.Decl.{Decl}
-use Rattle.sql_text.specs.declared.tree.CreateTable.{CreateTable}
-use Rattle.sql_text.specs.declared.tree.ColumnItem.{ColumnItem}
-use Rattle.sql_text.specs.declared.tree.Source.{Source}
+use Rattle.sql_grammar.specs.declared.tree.CreateTable.{CreateTable}
+use Rattle.sql_grammar.specs.declared.tree.ColumnItem.{ColumnItem}
+use Rattle.sql_grammar.specs.declared.tree.Source.{Source}
 use Rattle.script_rules.specs.Scope.{columns_of, table_named}
 use Rattle.column_table.specs.Table.{types_of}
 use Rattle.binder.specs.Binding.{decl_of, declaration, is_declared, table_number, tables_behind, with_table}

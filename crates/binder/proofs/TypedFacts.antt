@@ -17,14 +17,14 @@ use Rattle.predicate.specs.declared.tree.Operand.TheVariants as operand
 use Rattle.predicate.specs.declared.tree.Op.TheVariants as op
 use Rattle.predicate.specs.Truth.{are_one_type, is_typed, operand_type}
 use Rattle.predicate.proofs.TruthFacts.{is_typed-And, is_typed-Or, is_typed-Not, is_typed-Compare, is_typed-Like}
-use Rattle.sql_text.specs.declared.tree.Cond.{Cond, map-Cond, roll-Cond}
-use Rattle.sql_text.specs.declared.tree.Cond.TheOpen.{Cond-F, And, Or, Not, Compare, Between, InList, Like}
-use Rattle.sql_text.specs.declared.tree.Cond.TheFolds.{fold-roll-Cond, ind-Cond}
-use Rattle.sql_text.specs.declared.tree.Cond.TheVariants.{rolls-And, rolls-Or, rolls-Not, rolls-Compare, rolls-Between, rolls-InList, rolls-Like}
-use Rattle.sql_text.specs.declared.tree.Cond.TheVariants as c
-use Rattle.sql_text.specs.declared.tree.Expr.{Expr}
-use Rattle.sql_text.specs.declared.tree.Expr.TheVariants as expr
-use Rattle.sql_text.specs.declared.tree.Op.{Op as WrittenOp}
+use Rattle.sql_grammar.specs.declared.tree.Cond.{Cond, map-Cond, roll-Cond}
+use Rattle.sql_grammar.specs.declared.tree.Cond.TheOpen.{Cond-F, And, Or, Not, Compare, Between, InList, Like}
+use Rattle.sql_grammar.specs.declared.tree.Cond.TheFolds.{fold-roll-Cond, ind-Cond}
+use Rattle.sql_grammar.specs.declared.tree.Cond.TheVariants.{rolls-And, rolls-Or, rolls-Not, rolls-Compare, rolls-Between, rolls-InList, rolls-Like}
+use Rattle.sql_grammar.specs.declared.tree.Cond.TheVariants as c
+use Rattle.sql_grammar.specs.declared.tree.Expr.{Expr}
+use Rattle.sql_grammar.specs.declared.tree.Expr.TheVariants as expr
+use Rattle.sql_grammar.specs.declared.tree.Op.{Op as WrittenOp}
 use Rattle.column_classes.specs.declared.columns.ColumnRef.{ColumnRef}
 use Rattle.script_rules.specs.declared.kinds.BindKind.{BindKind}
 use Rattle.script_rules.specs.Scope.{Relation, meaning}

@@ -12,20 +12,20 @@ use Rattle.predicate.specs.declared.tree.Operand.{Operand}
 use Rattle.predicate.specs.declared.tree.Operand.TheVariants as operand
 use Rattle.predicate.specs.declared.tree.Op.{Op}
 use Rattle.predicate.specs.declared.tree.Op.TheVariants as op
-use Rattle.sql_text.specs.declared.tree.Script.{Script}
-use Rattle.sql_text.specs.declared.tree.CreateTable.{CreateTable}
-use Rattle.sql_text.specs.declared.tree.ColumnItem.{ColumnItem}
-use Rattle.sql_text.specs.declared.tree.Item.{Item}
-use Rattle.sql_text.specs.declared.tree.Items.{Items}
-use Rattle.sql_text.specs.declared.tree.Items.TheVariants as items
-use Rattle.sql_text.specs.declared.tree.Source.{Source}
-use Rattle.sql_text.specs.declared.tree.Expr.{Expr}
-use Rattle.sql_text.specs.declared.tree.Expr.TheVariants as expr
-use Rattle.sql_text.specs.declared.tree.Op.{Op as WrittenOp}
-use Rattle.sql_text.specs.declared.tree.Op.TheVariants as written
-use Rattle.sql_text.specs.declared.tree.Cond.{Cond}
-use Rattle.sql_text.specs.declared.tree.Cond.TheOpen.{Cond-F, And, Or, Not, Compare, Between, InList, Like}
-use Rattle.sql_text.specs.declared.tree.Cond.TheFolds.{fold-Cond}
+use Rattle.sql_grammar.specs.declared.tree.Script.{Script}
+use Rattle.sql_grammar.specs.declared.tree.CreateTable.{CreateTable}
+use Rattle.sql_grammar.specs.declared.tree.ColumnItem.{ColumnItem}
+use Rattle.sql_grammar.specs.declared.tree.Item.{Item}
+use Rattle.sql_grammar.specs.declared.tree.Items.{Items}
+use Rattle.sql_grammar.specs.declared.tree.Items.TheVariants as items
+use Rattle.sql_grammar.specs.declared.tree.Source.{Source}
+use Rattle.sql_grammar.specs.declared.tree.Expr.{Expr}
+use Rattle.sql_grammar.specs.declared.tree.Expr.TheVariants as expr
+use Rattle.sql_grammar.specs.declared.tree.Op.{Op as WrittenOp}
+use Rattle.sql_grammar.specs.declared.tree.Op.TheVariants as written
+use Rattle.sql_grammar.specs.declared.tree.Cond.{Cond}
+use Rattle.sql_grammar.specs.declared.tree.Cond.TheOpen.{Cond-F, And, Or, Not, Compare, Between, InList, Like}
+use Rattle.sql_grammar.specs.declared.tree.Cond.TheFolds.{fold-Cond}
 use Rattle.column_classes.specs.declared.columns.ColumnRef.{ColumnRef}
 use Rattle.column_classes.specs.declared.columns.Equality.{Equality}
 use Rattle.bound_query.specs.declared.output.OutColumn.{OutColumn}

@@ -2,7 +2,7 @@
 ghost use Rattle.std.specs.Prelude.{◌≡◌, ◌++◌, ◌∷◌, [], ℕ, IfOk, OnOk, map};
 ghost use Rattle.std.specs.List.{enumerate_from, flat_map};
 ghost use Rattle.std.specs.Option.{option_map_or};
-ghost use Rattle.sql_text.specs.declared.tree.ColumnItem.{ColumnItem};
+ghost use Rattle.sql_grammar.specs.declared.tree.ColumnItem.{ColumnItem};
 ghost use Rattle.column_classes.specs.declared.columns.ColumnRef.{ColumnRef};
 ghost use Rattle.bound_query.specs.declared.output.OutColumn.{OutColumn};
 ghost use Rattle.script_rules.specs.Scope.{IsWithinLimits, columns_of, relation_of, scope_of};

@@ -5,10 +5,10 @@ use Rattle.sql_lex.specs.declared.tokens.Token.{Token}
 use Rattle.sql_lex.specs.declared.tokens.LexError.{LexError}
 use Rattle.sql_lex.specs.declared.tokens.LexError.TheVariants as lex_error
 use Rattle.sql_lex.specs.Tokens.{IsBadAt, IsTokenList}
-use Rattle.sql_text.specs.declared.tree.Script.{Script}
-use Rattle.sql_text.specs.declared.errors.ParseError.{ParseError}
-use Rattle.sql_text.specs.declared.errors.ParseError.TheVariants as parse_error
-use Rattle.sql_text.specs.Sentence.{IsReading, IsSentence, IsSyntaxError, IsTooDeep}
+use Rattle.sql_grammar.specs.declared.tree.Script.{Script}
+use Rattle.sql_grammar.specs.declared.errors.ParseError.{ParseError}
+use Rattle.sql_grammar.specs.declared.errors.ParseError.TheVariants as parse_error
+use Rattle.sql_grammar.specs.Sentence.{IsReading, IsSentence, IsSyntaxError, IsTooDeep}
 use Rattle.refusal_lines.specs.declared.refusal.Refusal.{Refusal}
 use Rattle.refusal_lines.specs.declared.refusal.Refusal.TheVariants.{Usage, ReadFault, TooLarge, Lex, Syntax, TooDeep, Bind, Cyclic, OrderNames, UnsafeOrder, Header, Ragged, BadField, NotUtf8, TooManyRows, RowsOverflow, WriteFault, Memory}
 use Rattle.bound_query.specs.Query.{BoundQuery, Query}

@@ -7,7 +7,7 @@ use Rattle.column_table.specs.declared.declared.Decl.{Decl}
 use Rattle.column_table.specs.Table.{Rows}
 use Rattle.script_rules.specs.declared.found.Fault.{Fault}
 use Rattle.script_rules.specs.Faults.{refusal_of as script_refusal}
-use Rattle.sql_text.specs.declared.tree.Script.{Script}
+use Rattle.sql_grammar.specs.declared.tree.Script.{Script}
 use Rattle.bound_query.specs.Query.{BoundQuery, Query}
 use Rattle.bound_query.specs.Answer.{answer_of, counts_of}
 use Rattle.binder.specs.Binding.{query_of}

@@ -7,7 +7,7 @@ use Rattle.largest_root.specs.Greedy.{IsCyclic}
 use Rattle.rpt_engine.specs.Planned.{IsPlan}
 use Rattle.rpt_engine.specs.Prepared.{IsAllowed, IsUnsafeAt}
 use Rattle.rpt_engine.specs.declared.planning.Plan.{Plan}
-use Rattle.sql_text.specs.declared.tree.Script.{Script}
+use Rattle.sql_grammar.specs.declared.tree.Script.{Script}
 use Rattle.rpt_cli.specs.Orders.{order_of}
 use Rattle.rpt_cli.specs.Scripts.{IsScript}
 use Rattle.refusal_lines.specs.declared.refusal.Refusal.{Refusal}

@@ -2,8 +2,8 @@
 use Rattle.std.specs.Prelude.{List, ℕ, length, Result, Ok, Err}
 use Rattle.sql_lex.specs.declared.tokens.Token.{Token}
 use Rattle.sql_lex.specs.Tokens.{IsBadAt, IsTokenList}
-use Rattle.sql_text.specs.declared.tree.Script.{Script}
-use Rattle.sql_text.specs.Sentence.{IsSentence, IsSyntaxError, IsTooDeep}
+use Rattle.sql_grammar.specs.declared.tree.Script.{Script}
+use Rattle.sql_grammar.specs.Sentence.{IsSentence, IsSyntaxError, IsTooDeep}
 use Rattle.refusal_lines.specs.declared.refusal.Refusal.{Refusal}
 use Rattle.refusal_lines.specs.declared.refusal.Refusal.TheVariants.{Lex, Syntax, TooDeep}
 

@@ -1,7 +1,7 @@
 // The query of a script's file.
 ghost use Rattle.std.specs.Prelude.{◌≡◌, ◌≤◌, ◌⊎◌, Err, IfErr, IfOk, Ok, Result, length};
 ghost use Rattle.rpt_base.specs.declared.limits.TheConstants.{MAX_SCRIPT_BYTES};
-ghost use Rattle.sql_text.specs.declared.tree.Script.{Script as Tree};
+ghost use Rattle.sql_grammar.specs.declared.tree.Script.{Script as Tree};
 ghost use Rattle.refusal_lines.specs.declared.refusal.Refusal.{Refusal as Why};
 ghost use Rattle.rpt_cli.specs.Command.{bytes_course, query_of_script, script_course};
 ghost use Rattle.rpt_cli.specs.Scripts.{IsScript};

@@ -1,6 +1,6 @@
 // What is asked of a script, from its bytes on.
 ghost use Rattle.std.specs.Prelude.{◌≤◌, length};
-ghost use Rattle.sql_text.specs.Formed.{IsWellFormed};
+ghost use Rattle.sql_grammar.specs.Formed.{IsWellFormed};
 ghost use Rattle.sql_print.specs.Printed.{script_levels};
 
 use crate::printing::put_printed;

@@ -3,14 +3,14 @@ use Rattle.std.proofs.Common.{◌≡◌, ◌∙◌, ℕ, Bool, false, List, [], 
 use Rattle.std.specs.List.{flat_map}
 use Rattle.std.proofs.lemmas.List.Folds.{flat_map-map}
 use Rattle.rpt_base.specs.declared.values.Value.{Value}
-use Rattle.sql_text.specs.declared.tree.Cond.{Cond}
-use Rattle.sql_text.specs.declared.tree.Cond.TheOpen.{Cond-F, And, Or, Not, Compare, Between, InList, Like}
-use Rattle.sql_text.specs.declared.tree.Cond.TheFolds.{fold-Cond, fold-roll-Cond, ind-Cond}
-use Rattle.sql_text.specs.declared.tree.Cond.{map-Cond, roll-Cond}
-use Rattle.sql_text.specs.declared.tree.Cond.TheVariants.{rolls-And, rolls-Or, rolls-Not, rolls-Compare, rolls-Between, rolls-InList, rolls-Like}
-use Rattle.sql_text.specs.declared.tree.Cond.TheVariants as c
-use Rattle.sql_text.specs.declared.tree.Expr.{Expr}
-use Rattle.sql_text.specs.declared.tree.Op.{Op}
+use Rattle.sql_grammar.specs.declared.tree.Cond.{Cond}
+use Rattle.sql_grammar.specs.declared.tree.Cond.TheOpen.{Cond-F, And, Or, Not, Compare, Between, InList, Like}
+use Rattle.sql_grammar.specs.declared.tree.Cond.TheFolds.{fold-Cond, fold-roll-Cond, ind-Cond}
+use Rattle.sql_grammar.specs.declared.tree.Cond.{map-Cond, roll-Cond}
+use Rattle.sql_grammar.specs.declared.tree.Cond.TheVariants.{rolls-And, rolls-Or, rolls-Not, rolls-Compare, rolls-Between, rolls-InList, rolls-Like}
+use Rattle.sql_grammar.specs.declared.tree.Cond.TheVariants as c
+use Rattle.sql_grammar.specs.declared.tree.Expr.{Expr}
+use Rattle.sql_grammar.specs.declared.tree.Op.{Op}
 use Rattle.column_classes.specs.declared.columns.ColumnRef.{ColumnRef}
 use Rattle.script_rules.specs.declared.found.Fault.{Fault}
 use Rattle.script_rules.specs.Scope.{Relation}

@@ -3,7 +3,7 @@ use Rattle.std.proofs.Common.{◌≡◌, ◌∙◌, [], ◌∷◌, ap}
 use Rattle.std.specs.Prelude.{IfNone, Option, None, Some}
 use Rattle.std.specs.List.{flat_map}
 use Rattle.std.specs.Option.{option_or}
-use Rattle.sql_text.specs.declared.tree.Script.{Script}
+use Rattle.sql_grammar.specs.declared.tree.Script.{Script}
 use Rattle.script_rules.specs.declared.found.Fault.{Fault}
 use Rattle.script_rules.specs.Scope.{scope_of}
 use Rattle.script_rules.specs.Conjuncts.{conjuncts_of}

@@ -5,12 +5,12 @@ use Rattle.std.specs.Option.{option_map, option_map_or, option_to_list}
 use Rattle.std.specs.Str.{bytes_eq}
 use Rattle.rpt_base.specs.declared.limits.TheConstants.{MAX_COLUMNS, MAX_RELATIONS}
 use Rattle.rpt_base.specs.declared.values.ColumnType.{ColumnType}
-use Rattle.sql_text.specs.declared.tree.Script.{Script}
-use Rattle.sql_text.specs.declared.tree.CreateTable.{CreateTable}
-use Rattle.sql_text.specs.declared.tree.ColumnItem.{ColumnItem}
-use Rattle.sql_text.specs.declared.tree.ColumnName.{ColumnName}
-use Rattle.sql_text.specs.declared.tree.Source.{Source}
-use Rattle.sql_text.specs.declared.tree.Alias.{Alias}
+use Rattle.sql_grammar.specs.declared.tree.Script.{Script}
+use Rattle.sql_grammar.specs.declared.tree.CreateTable.{CreateTable}
+use Rattle.sql_grammar.specs.declared.tree.ColumnItem.{ColumnItem}
+use Rattle.sql_grammar.specs.declared.tree.ColumnName.{ColumnName}
+use Rattle.sql_grammar.specs.declared.tree.Source.{Source}
+use Rattle.sql_grammar.specs.declared.tree.Alias.{Alias}
 use Rattle.column_classes.specs.declared.columns.ColumnRef.{ColumnRef}
 use Rattle.script_rules.specs.declared.kinds.BindKind.{BindKind}
 use Rattle.script_rules.specs.declared.kinds.BindKind.TheVariants.{UnknownColumn, Ambiguous}

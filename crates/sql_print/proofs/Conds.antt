@@ -3,21 +3,21 @@ use Rattle.std.proofs.Common.{◌≡◌, ◌∙◌, ap, sym, refl, subst, ℕ, L
 use Rattle.rpt_base.specs.declared.values.Value.{Value}
 use Rattle.sql_lex.specs.declared.tokens.Token.{Token}
 use Rattle.sql_lex.specs.declared.tokens.Mark.TheVariants as marks
-use Rattle.sql_text.specs.declared.kinds.Kind.{Kind}
-use Rattle.sql_text.specs.declared.kinds.Kind.TheVariants as k
-use Rattle.sql_text.specs.Kinds.{kind_of, among}
-use Rattle.sql_text.specs.declared.tree.Cond.{Cond}
-use Rattle.sql_text.specs.declared.tree.Cond.TheVariants as c
-use Rattle.sql_text.specs.declared.tree.Cond.TheVariants.{rolls-And, rolls-Or, rolls-Not, rolls-Compare, rolls-Between, rolls-InList, rolls-Like}
-use Rattle.sql_text.specs.declared.tree.Cond.TheOpen.{And, Or, Not, Compare, Between, InList, Like}
-use Rattle.sql_text.specs.declared.tree.Cond.TheFolds.{fold-roll-Cond}
-use Rattle.sql_text.specs.declared.tree.Expr.{Expr}
-use Rattle.sql_text.specs.declared.tree.Op.{Op}
-use Rattle.sql_text.specs.declared.tree.Op.TheVariants as o
-use Rattle.sql_text.specs.Places.{place_of_expr}
-use Rattle.sql_text.specs.Grammar as g
-use Rattle.sql_text.specs.Grammar.{Part, token, word, nothing, ◌▸◌, ◌∣◌, many, level, line, opt, comparisons, Tree, Leaf, None, Both, Left, Right, End, More, In, By}
-use Rattle.sql_text.specs.Meaning.{operand_of, op_of, op_by, is_there, text_of, literal_of, literals_of, tests, test_of}
+use Rattle.sql_grammar.specs.declared.kinds.Kind.{Kind}
+use Rattle.sql_grammar.specs.declared.kinds.Kind.TheVariants as k
+use Rattle.sql_grammar.specs.Kinds.{kind_of, among}
+use Rattle.sql_grammar.specs.declared.tree.Cond.{Cond}
+use Rattle.sql_grammar.specs.declared.tree.Cond.TheVariants as c
+use Rattle.sql_grammar.specs.declared.tree.Cond.TheVariants.{rolls-And, rolls-Or, rolls-Not, rolls-Compare, rolls-Between, rolls-InList, rolls-Like}
+use Rattle.sql_grammar.specs.declared.tree.Cond.TheOpen.{And, Or, Not, Compare, Between, InList, Like}
+use Rattle.sql_grammar.specs.declared.tree.Cond.TheFolds.{fold-roll-Cond}
+use Rattle.sql_grammar.specs.declared.tree.Expr.{Expr}
+use Rattle.sql_grammar.specs.declared.tree.Op.{Op}
+use Rattle.sql_grammar.specs.declared.tree.Op.TheVariants as o
+use Rattle.sql_grammar.specs.Places.{place_of_expr}
+use Rattle.sql_grammar.specs.Grammar as g
+use Rattle.sql_grammar.specs.Grammar.{Part, token, word, nothing, ◌▸◌, ◌∣◌, many, level, line, opt, comparisons, Tree, Leaf, None, Both, Left, Right, End, More, In, By}
+use Rattle.sql_grammar.specs.Meaning.{operand_of, op_of, op_by, is_there, text_of, literal_of, literals_of, tests, test_of}
 use Rattle.sql_print.specs.Pieces as piece
 use Rattle.sql_print.specs.Pieces.{Piece}
 use Rattle.sql_print.specs.Writes.{token_of}

@@ -1,9 +1,9 @@
 -- Derivations of what pieces write.
 use Rattle.std.proofs.Common.{◌≡◌, ◌∙◌, ap, sym, refl, subst, ℕ, ◌≤◌, ◌+◌, List, [], ◌∷◌, true, arith}
 use Rattle.sql_lex.specs.declared.tokens.Token.{Token}
-use Rattle.sql_text.specs.declared.kinds.Kind.{Kind}
-use Rattle.sql_text.specs.Kinds.{kind_of, among}
-use Rattle.sql_text.specs.Grammar.{Line, rule, Part, token, nothing, ◌▸◌, ◌∣◌, many, level, line, Tree, text, depth, Leaf, None, Both, Left, Right, End, More, In, By}
+use Rattle.sql_grammar.specs.declared.kinds.Kind.{Kind}
+use Rattle.sql_grammar.specs.Kinds.{kind_of, among}
+use Rattle.sql_grammar.specs.Grammar.{Line, rule, Part, token, nothing, ◌▸◌, ◌∣◌, many, level, line, Tree, text, depth, Leaf, None, Both, Left, Right, End, More, In, By}
 use Rattle.sql_print.specs.Pieces.{Piece, IsPiece, ArePieces}
 use Rattle.sql_print.specs.Writes.{token_of, Writes}
 

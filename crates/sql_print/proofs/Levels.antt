@@ -3,22 +3,22 @@ use Rattle.std.proofs.Common.{◌≡◌, ◌∙◌, ap, sym, subst, ℕ, ◌≤�
 use Rattle.std.specs.Prelude.{max}
 use Rattle.rpt_base.specs.declared.values.Value.{Value}
 use Rattle.sql_lex.specs.declared.tokens.Token.{Token}
-use Rattle.sql_text.specs.declared.kinds.Kind.TheVariants as k
-use Rattle.sql_text.specs.declared.tree.Cond.{Cond}
-use Rattle.sql_text.specs.declared.tree.Cond.TheVariants as c
-use Rattle.sql_text.specs.declared.tree.Cond.TheVariants.{rolls-And, rolls-Or, rolls-Not, rolls-Compare, rolls-Between, rolls-InList, rolls-Like}
-use Rattle.sql_text.specs.declared.tree.Cond.TheOpen.{Cond-F, And, Or, Not, Compare, Between, InList, Like}
-use Rattle.sql_text.specs.declared.tree.Cond.TheViews.{roll-Cond}
-use Rattle.sql_text.specs.declared.tree.Cond.TheFolds.{fold-roll-Cond, ind-Cond, map-Cond}
-use Rattle.sql_text.specs.declared.tree.Expr.{Expr}
-use Rattle.sql_text.specs.declared.tree.Op.{Op}
-use Rattle.sql_text.specs.declared.tree.Script.{Script}
-use Rattle.sql_text.specs.declared.tree.Source.{Source}
-use Rattle.sql_text.specs.Places.{place_of_expr}
-use Rattle.sql_text.specs.Grammar as g
-use Rattle.sql_text.specs.Grammar.{Part, word, ◌▸◌, ◌∣◌, many, line, opt, Tree, depth, Leaf, Both, Left, Right, End, More, In, By}
-use Rattle.sql_text.specs.Meaning.{operand_of, op_of, is_there, text_of, literal_of, literals_of, tests, test_of, joined, cond_of, conjs_of, conj_of, negs_of, neg_of, prim_of, join, joins_of, source_of, more_sources_of, filter_of, script_of}
-use Rattle.sql_text.specs.Sentence.{IsSentence}
+use Rattle.sql_grammar.specs.declared.kinds.Kind.TheVariants as k
+use Rattle.sql_grammar.specs.declared.tree.Cond.{Cond}
+use Rattle.sql_grammar.specs.declared.tree.Cond.TheVariants as c
+use Rattle.sql_grammar.specs.declared.tree.Cond.TheVariants.{rolls-And, rolls-Or, rolls-Not, rolls-Compare, rolls-Between, rolls-InList, rolls-Like}
+use Rattle.sql_grammar.specs.declared.tree.Cond.TheOpen.{Cond-F, And, Or, Not, Compare, Between, InList, Like}
+use Rattle.sql_grammar.specs.declared.tree.Cond.TheViews.{roll-Cond}
+use Rattle.sql_grammar.specs.declared.tree.Cond.TheFolds.{fold-roll-Cond, ind-Cond, map-Cond}
+use Rattle.sql_grammar.specs.declared.tree.Expr.{Expr}
+use Rattle.sql_grammar.specs.declared.tree.Op.{Op}
+use Rattle.sql_grammar.specs.declared.tree.Script.{Script}
+use Rattle.sql_grammar.specs.declared.tree.Source.{Source}
+use Rattle.sql_grammar.specs.Places.{place_of_expr}
+use Rattle.sql_grammar.specs.Grammar as g
+use Rattle.sql_grammar.specs.Grammar.{Part, word, ◌▸◌, ◌∣◌, many, line, opt, Tree, depth, Leaf, Both, Left, Right, End, More, In, By}
+use Rattle.sql_grammar.specs.Meaning.{operand_of, op_of, is_there, text_of, literal_of, literals_of, tests, test_of, joined, cond_of, conjs_of, conj_of, negs_of, neg_of, prim_of, join, joins_of, source_of, more_sources_of, filter_of, script_of}
+use Rattle.sql_grammar.specs.Sentence.{IsSentence}
 use Rattle.sql_print.specs.declared.conditions.Room.{Room}
 use Rattle.sql_print.specs.declared.conditions.Room.TheVariants as room
 use Rattle.sql_print.specs.Printed.{levels_step, cond_levels, filter_levels, sources_levels, script_levels}

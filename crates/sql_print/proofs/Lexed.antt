@@ -18,7 +18,7 @@ use Rattle.sql_lex.specs.declared.tokens.TokenKind.{TokenKind}
 use Rattle.sql_lex.specs.declared.tokens.TokenKind.TheVariants as t
 use Rattle.sql_lex.specs.Tokens.{is_blank, begins_word, is_word_byte, is_word, doubled, given}
 use Rattle.sql_lex.specs.Lexing.{before, number_of, run_token, sized, run_at, text_of, quoted_token, mark_token, token_at, as_item, item_at, joined, tokens_behind}
-use Rattle.sql_text.specs.Kinds.{is_name_in_lower_case, is_not_capital}
+use Rattle.sql_grammar.specs.Kinds.{is_name_in_lower_case, is_not_capital}
 use Rattle.sql_print.specs.Pieces.{Piece, word, name, number, magnitude, text, mark, mark_text, spelling, shown, IsPiece, ArePieces}
 use Rattle.sql_print.specs.Writes.{token_of, Writes}
 

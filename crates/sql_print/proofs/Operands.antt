@@ -14,15 +14,15 @@ use Rattle.sql_lex.specs.declared.tokens.TokenKind.{TokenKind}
 use Rattle.sql_lex.specs.declared.tokens.TokenKind.TheVariants as t
 use Rattle.sql_lex.specs.declared.tokens.Mark.{Mark}
 use Rattle.sql_lex.specs.declared.tokens.Mark.TheVariants as marks
-use Rattle.sql_text.specs.declared.kinds.Kind.{Kind}
-use Rattle.sql_text.specs.declared.kinds.Kind.TheVariants as k
-use Rattle.sql_text.specs.Kinds.{kind_of, kind_by, kind_of_mark, among, code, has, is_name_in_lower_case}
-use Rattle.sql_text.specs.declared.tree.ColumnName.{ColumnName}
-use Rattle.sql_text.specs.declared.tree.Expr.{Expr}
-use Rattle.sql_text.specs.declared.tree.Expr.TheVariants as e
-use Rattle.sql_text.specs.Grammar as g
-use Rattle.sql_text.specs.Grammar.{Part, token, word, nothing, ◌▸◌, ◌∣◌, many, line, opt, name, names, magnitudes, rule, Tree, Leaf, Both, Left, Right, By}
-use Rattle.sql_text.specs.Meaning.{written, magnitude, named, alone, within, colref_of, literal_of, negative_of, text_of, operand_of}
+use Rattle.sql_grammar.specs.declared.kinds.Kind.{Kind}
+use Rattle.sql_grammar.specs.declared.kinds.Kind.TheVariants as k
+use Rattle.sql_grammar.specs.Kinds.{kind_of, kind_by, kind_of_mark, among, code, has, is_name_in_lower_case}
+use Rattle.sql_grammar.specs.declared.tree.ColumnName.{ColumnName}
+use Rattle.sql_grammar.specs.declared.tree.Expr.{Expr}
+use Rattle.sql_grammar.specs.declared.tree.Expr.TheVariants as e
+use Rattle.sql_grammar.specs.Grammar as g
+use Rattle.sql_grammar.specs.Grammar.{Part, token, word, nothing, ◌▸◌, ◌∣◌, many, line, opt, name, names, magnitudes, rule, Tree, Leaf, Both, Left, Right, By}
+use Rattle.sql_grammar.specs.Meaning.{written, magnitude, named, alone, within, colref_of, literal_of, negative_of, text_of, operand_of}
 use Rattle.sql_print.specs.Pieces as piece
 use Rattle.sql_print.specs.Pieces.{Piece, IsPiece}
 use Rattle.sql_print.specs.Writes.{token_of}

@@ -9,7 +9,7 @@ use Rattle.std.specs.Str.{str_to_ascii_lowercase}
 use Rattle.std.proofs.lemmas.Bool.{and_from}
 use Rattle.std.proofs.lemmas.Bool.Decides.{nat_tests}
 use Rattle.rpt_base.specs.Names.{is_name}
-use Rattle.sql_text.specs.Kinds.{is_name_in_lower_case, is_not_capital}
+use Rattle.sql_grammar.specs.Kinds.{is_name_in_lower_case, is_not_capital}
 use Rattle.sql_print.specs.Pieces.{Piece, name, mark, magnitude, spelling, shown, IsPiece, ArePieces}
 use Rattle.sql_print.specs.Printed.{int_pieces}
 use Rattle.sql_print.specs.Puts.{Puts, Leaves}

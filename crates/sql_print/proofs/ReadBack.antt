@@ -3,10 +3,10 @@ use Rattle.std.proofs.Common.{◌≡◌, ◌∙◌, ap, sym, refl, subst, ℕ, �
 use Rattle.sql_lex.specs.declared.tokens.Token.{Token}
 use Rattle.sql_lex.specs.Tokens.{IsTokenList, without_order_mark}
 use Rattle.sql_lex.specs.Lexing.{tokens_behind, lexed}
-use Rattle.sql_text.specs.declared.tree.CreateTable.{CreateTable}
-use Rattle.sql_text.specs.declared.tree.Select.{Select}
-use Rattle.sql_text.specs.declared.tree.Script.{Script}
-use Rattle.sql_text.specs.Formed.{IsWellFormed}
+use Rattle.sql_grammar.specs.declared.tree.CreateTable.{CreateTable}
+use Rattle.sql_grammar.specs.declared.tree.Select.{Select}
+use Rattle.sql_grammar.specs.declared.tree.Script.{Script}
+use Rattle.sql_grammar.specs.Formed.{IsWellFormed}
 use Rattle.sql_print.specs.Pieces.{shown, ArePieces}
 use Rattle.sql_print.specs.Printed.{tables_pieces, select_pieces, script_pieces, printed, script_levels}
 use Rattle.sql_print.specs.Puts.{IsShown}

@@ -4,25 +4,25 @@ use Rattle.rpt_base.specs.declared.values.ColumnType.{ColumnType}
 use Rattle.rpt_base.specs.declared.values.ColumnType.TheVariants as column_type
 use Rattle.sql_lex.specs.declared.tokens.Token.{Token}
 use Rattle.sql_lex.specs.declared.tokens.Mark.TheVariants as marks
-use Rattle.sql_text.specs.declared.kinds.Kind.{Kind}
-use Rattle.sql_text.specs.declared.kinds.Kind.TheVariants as k
-use Rattle.sql_text.specs.Kinds.{kind_of, among}
-use Rattle.sql_text.specs.declared.tree.Alias.{Alias}
-use Rattle.sql_text.specs.declared.tree.ColumnItem.{ColumnItem}
-use Rattle.sql_text.specs.declared.tree.ColumnName.{ColumnName}
-use Rattle.sql_text.specs.declared.tree.Cond.{Cond}
-use Rattle.sql_text.specs.declared.tree.CreateTable.{CreateTable}
-use Rattle.sql_text.specs.declared.tree.Item.{Item}
-use Rattle.sql_text.specs.declared.tree.Items.{Items}
-use Rattle.sql_text.specs.declared.tree.Items.TheVariants as i
-use Rattle.sql_text.specs.declared.tree.Script.{Script}
-use Rattle.sql_text.specs.declared.tree.Select.{Select}
-use Rattle.sql_text.specs.declared.tree.Source.{Source}
-use Rattle.sql_text.specs.Formed.{is_cond, IsFilter, AreSources, IsFrom, AreItems, AreTables, IsWellFormed}
-use Rattle.sql_text.specs.Sentence.{IsSentence}
-use Rattle.sql_text.specs.Grammar as g
-use Rattle.sql_text.specs.Grammar.{Part, token, word, name, types, ◌▸◌, ◌∣◌, many, line, opt, Tree, text, depth, Leaf, Both, Left, Right, End, More, By}
-use Rattle.sql_text.specs.Meaning.{named, alias_of, title_of, colref_of, item_of, more_items_of, items_of, factor_of, join, join_of, joins_of, source_of, more_sources_of, filter_of, cond_of, selected, select_of, type_by, type_of, column_of, more_columns_of, create_of, creates_of, scripted, script_of}
+use Rattle.sql_grammar.specs.declared.kinds.Kind.{Kind}
+use Rattle.sql_grammar.specs.declared.kinds.Kind.TheVariants as k
+use Rattle.sql_grammar.specs.Kinds.{kind_of, among}
+use Rattle.sql_grammar.specs.declared.tree.Alias.{Alias}
+use Rattle.sql_grammar.specs.declared.tree.ColumnItem.{ColumnItem}
+use Rattle.sql_grammar.specs.declared.tree.ColumnName.{ColumnName}
+use Rattle.sql_grammar.specs.declared.tree.Cond.{Cond}
+use Rattle.sql_grammar.specs.declared.tree.CreateTable.{CreateTable}
+use Rattle.sql_grammar.specs.declared.tree.Item.{Item}
+use Rattle.sql_grammar.specs.declared.tree.Items.{Items}
+use Rattle.sql_grammar.specs.declared.tree.Items.TheVariants as i
+use Rattle.sql_grammar.specs.declared.tree.Script.{Script}
+use Rattle.sql_grammar.specs.declared.tree.Select.{Select}
+use Rattle.sql_grammar.specs.declared.tree.Source.{Source}
+use Rattle.sql_grammar.specs.Formed.{is_cond, IsFilter, AreSources, IsFrom, AreItems, AreTables, IsWellFormed}
+use Rattle.sql_grammar.specs.Sentence.{IsSentence}
+use Rattle.sql_grammar.specs.Grammar as g
+use Rattle.sql_grammar.specs.Grammar.{Part, token, word, name, types, ◌▸◌, ◌∣◌, many, line, opt, Tree, text, depth, Leaf, Both, Left, Right, End, More, By}
+use Rattle.sql_grammar.specs.Meaning.{named, alias_of, title_of, colref_of, item_of, more_items_of, items_of, factor_of, join, join_of, joins_of, source_of, more_sources_of, filter_of, cond_of, selected, select_of, type_by, type_of, column_of, more_columns_of, create_of, creates_of, scripted, script_of}
 use Rattle.sql_print.specs.declared.conditions.Room.TheVariants as room
 use Rattle.sql_print.specs.Pieces as piece
 use Rattle.sql_print.specs.Pieces.{Piece, ArePieces}

@@ -4,7 +4,7 @@ use Rattle.std.specs.Str.{IsUtf8}
 use Rattle.sql_lex.specs.declared.tokens.Mark.{Mark}
 use Rattle.sql_lex.specs.declared.tokens.Mark.TheVariants as m
 use Rattle.sql_lex.specs.Tokens.{is_word, doubled}
-use Rattle.sql_text.specs.Kinds.{is_name_in_lower_case}
+use Rattle.sql_grammar.specs.Kinds.{is_name_in_lower_case}
 
 -- The pieces, each of which is a token.
 pub data Piece : Type 0 where

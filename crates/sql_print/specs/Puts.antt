@@ -2,7 +2,7 @@
 use Rattle.std.specs.Prelude.{◌≡◌, ℕ, List, [], ◌++◌}
 use Rattle.sql_print.specs.Pieces.{Piece, shown, ArePieces}
 use Rattle.sql_print.specs.Printed.{script_pieces, printed}
-use Rattle.sql_text.specs.declared.tree.Script.{Script}
+use Rattle.sql_grammar.specs.declared.tree.Script.{Script}
 
 -- The text gained these pieces, each of which a script can hold: however it goes on, the whole is shown.
 pub record Puts (pieces : List Piece → List Piece) (old new : List ℕ) : Type 0 where

@@ -2,23 +2,23 @@
 use Rattle.std.specs.Prelude.{◌≡◌, ℕ, List, map, Option, None, Some}
 use Rattle.sql_lex.specs.declared.tokens.Token.{Token}
 use Rattle.sql_lex.specs.Tokens.{IsTokenList}
-use Rattle.sql_text.specs.declared.tree.Alias.{Alias}
-use Rattle.sql_text.specs.declared.tree.ColumnItem.{ColumnItem}
-use Rattle.sql_text.specs.declared.tree.ColumnName.{ColumnName}
-use Rattle.sql_text.specs.declared.tree.Cond.{Cond}
-use Rattle.sql_text.specs.declared.tree.Cond.TheVariants as c
-use Rattle.sql_text.specs.declared.tree.Cond.TheOpen.{Cond-F, And, Or, Not, Compare, Between, InList, Like}
-use Rattle.sql_text.specs.declared.tree.Cond.TheFolds.{fold-Cond}
-use Rattle.sql_text.specs.declared.tree.CreateTable.{CreateTable}
-use Rattle.sql_text.specs.declared.tree.Expr.{Expr}
-use Rattle.sql_text.specs.declared.tree.Expr.TheVariants as e
-use Rattle.sql_text.specs.declared.tree.Item.{Item}
-use Rattle.sql_text.specs.declared.tree.Items.{Items}
-use Rattle.sql_text.specs.declared.tree.Items.TheVariants as i
-use Rattle.sql_text.specs.declared.tree.Script.{Script}
-use Rattle.sql_text.specs.declared.tree.Select.{Select}
-use Rattle.sql_text.specs.declared.tree.Source.{Source}
-use Rattle.sql_text.specs.Sentence.{IsSentence}
+use Rattle.sql_grammar.specs.declared.tree.Alias.{Alias}
+use Rattle.sql_grammar.specs.declared.tree.ColumnItem.{ColumnItem}
+use Rattle.sql_grammar.specs.declared.tree.ColumnName.{ColumnName}
+use Rattle.sql_grammar.specs.declared.tree.Cond.{Cond}
+use Rattle.sql_grammar.specs.declared.tree.Cond.TheVariants as c
+use Rattle.sql_grammar.specs.declared.tree.Cond.TheOpen.{Cond-F, And, Or, Not, Compare, Between, InList, Like}
+use Rattle.sql_grammar.specs.declared.tree.Cond.TheFolds.{fold-Cond}
+use Rattle.sql_grammar.specs.declared.tree.CreateTable.{CreateTable}
+use Rattle.sql_grammar.specs.declared.tree.Expr.{Expr}
+use Rattle.sql_grammar.specs.declared.tree.Expr.TheVariants as e
+use Rattle.sql_grammar.specs.declared.tree.Item.{Item}
+use Rattle.sql_grammar.specs.declared.tree.Items.{Items}
+use Rattle.sql_grammar.specs.declared.tree.Items.TheVariants as i
+use Rattle.sql_grammar.specs.declared.tree.Script.{Script}
+use Rattle.sql_grammar.specs.declared.tree.Select.{Select}
+use Rattle.sql_grammar.specs.declared.tree.Source.{Source}
+use Rattle.sql_grammar.specs.Sentence.{IsSentence}
 
 abbrev pub unplaced_alias : Alias → Alias
 unplaced_alias alias = record { at = 0; name = alias.name }

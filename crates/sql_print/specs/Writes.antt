@@ -6,7 +6,7 @@ use Rattle.sql_lex.specs.declared.tokens.TokenKind.{TokenKind}
 use Rattle.sql_lex.specs.declared.tokens.TokenKind.TheVariants as t
 use Rattle.sql_lex.specs.declared.tokens.Mark.TheVariants as m
 use Rattle.sql_lex.specs.Tokens.{IsTokenList}
-use Rattle.sql_text.specs.declared.tree.Script.{Script}
+use Rattle.sql_grammar.specs.declared.tree.Script.{Script}
 use Rattle.sql_print.specs.Pieces.{Piece, word, name, number, magnitude, text, mark}
 use Rattle.sql_print.specs.Printed.{script_pieces}
 

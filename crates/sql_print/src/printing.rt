@@ -2,9 +2,9 @@
 ghost use Rattle.std.specs.Prelude.{◌≡◌, ◌≤◌, ◌∷◌, ℕ, List, OnOk, IfOk};
 ghost use Rattle.sql_lex.specs.declared.tokens.Mark.TheVariants as m;
 ghost use Rattle.sql_lex.specs.declared.tokens.Token.{Token};
-ghost use Rattle.sql_text.specs.declared.tree.Script.{Script as Tree};
-ghost use Rattle.sql_text.specs.Formed.{IsWellFormed};
-ghost use Rattle.sql_text.specs.Sentence.{IsSentence};
+ghost use Rattle.sql_grammar.specs.declared.tree.Script.{Script as Tree};
+ghost use Rattle.sql_grammar.specs.Formed.{IsWellFormed};
+ghost use Rattle.sql_grammar.specs.Sentence.{IsSentence};
 ghost use Rattle.sql_print.specs.Pieces.{mark, word};
 ghost use Rattle.sql_print.specs.Printed.{title_pieces, item_pieces, items_pieces, alias_pieces, factor_pieces, next_source, next_sources, sources_pieces, filter_pieces, select_pieces, type_word, declared_pieces, table_pieces, tables_pieces, script_pieces, printed, script_levels, behind_each, between_all};
 ghost use Rattle.sql_print.specs.Puts.{Puts, IsShown};

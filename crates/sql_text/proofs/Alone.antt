@@ -2,15 +2,15 @@
 use Rattle.std.proofs.Common.{◌≡◌, ℕ, List, length, refl, sym, ◌∙◌, ap, subst, Result, Ok, Err}
 use Rattle.std.specs.Prelude.{IfOk, IfErr}
 use Rattle.sql_lex.specs.declared.tokens.Token.{Token}
-use Rattle.sql_text.specs.declared.errors.ParseError.{ParseError}
-use Rattle.sql_text.specs.declared.errors.ParseError.TheVariants.{Syntax, TooDeep}
-use Rattle.sql_text.specs.declared.tree.Script.{Script}
-use Rattle.sql_text.specs.Formed.{IsWellFormed}
-use Rattle.sql_text.specs.Meaning.{script_of}
-use Rattle.sql_text.specs.Reading.{Parsed}
-use Rattle.sql_text.specs.Sentence.{IsSentence, IsSyntaxError, IsTooDeep, IsReading, place}
-use Rattle.sql_text.proofs.Formed.{formed}
-use Rattle.sql_text.proofs.Whole.{sentence, too_long, only_tree, only_long}
+use Rattle.sql_grammar.specs.declared.errors.ParseError.{ParseError}
+use Rattle.sql_grammar.specs.declared.errors.ParseError.TheVariants.{Syntax, TooDeep}
+use Rattle.sql_grammar.specs.declared.tree.Script.{Script}
+use Rattle.sql_grammar.specs.Formed.{IsWellFormed}
+use Rattle.sql_grammar.specs.Meaning.{script_of}
+use Rattle.sql_grammar.specs.Reading.{Parsed}
+use Rattle.sql_grammar.specs.Sentence.{IsSentence, IsSyntaxError, IsTooDeep, IsReading, place}
+use Rattle.sql_grammar.proofs.Formed.{formed}
+use Rattle.sql_grammar.proofs.Whole.{sentence, too_long, only_tree, only_long}
 
 -- the script, if no token is left
 abbrev IsFound : Script → List Token → Result Script ParseError → Type 0

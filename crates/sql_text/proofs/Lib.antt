@@ -1,17 +1,4 @@
-mod Sets
-mod Parts
-mod First
-mod Compose
-mod Choices
-mod Same
-mod Leads
-mod Loops
-mod Words
-mod KindFacts
 mod Placed
 mod Predicates
 mod Members
-mod Cuts
-mod Whole
-mod Formed
 mod Alone

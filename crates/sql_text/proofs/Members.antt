@@ -1,11 +1,11 @@
 -- The members that OR and AND join.
 use Rattle.std.proofs.Common.{◌≡◌, List, ◌∷◌, sym}
-use Rattle.sql_text.specs.declared.kinds.Kind.TheVariants as k
-use Rattle.sql_text.specs.declared.tree.Cond.{Cond}
-use Rattle.sql_text.specs.declared.tree.Cond.TheVariants as c
-use Rattle.sql_text.specs.Grammar.{word, many, line, Tree, Both, By, ◌▸◌}
-use Rattle.sql_text.specs.Grammar as g
-use Rattle.sql_text.specs.Meaning.{cond_of, conj_of, neg_of, conjs_of, negs_of, joined}
+use Rattle.sql_grammar.specs.declared.kinds.Kind.TheVariants as k
+use Rattle.sql_grammar.specs.declared.tree.Cond.{Cond}
+use Rattle.sql_grammar.specs.declared.tree.Cond.TheVariants as c
+use Rattle.sql_grammar.specs.Grammar.{word, many, line, Tree, Both, By, ◌▸◌}
+use Rattle.sql_grammar.specs.Grammar as g
+use Rattle.sql_grammar.specs.Meaning.{cond_of, conj_of, neg_of, conjs_of, negs_of, joined}
 
 abbrev pub disjuncts : Tree (line g.conj ▸ many (word k.Or ▸ line g.conj)) → List Cond
 disjuncts (Both first more) = conj_of first ∷ conjs_of more

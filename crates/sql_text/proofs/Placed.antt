@@ -1,9 +1,9 @@
 -- Where a literal stands.
 use Rattle.std.proofs.Common.{◌≡◌, ℕ, List, refl, subst}
 use Rattle.sql_lex.specs.declared.tokens.Token.{Token}
-use Rattle.sql_text.specs.Grammar.{line, literal, Tree, text, Leaf, Both, Left, Right, By}
-use Rattle.sql_text.specs.Meaning.{literal_place}
-use Rattle.sql_text.specs.Sentence.{place}
+use Rattle.sql_grammar.specs.Grammar.{line, literal, Tree, text, Leaf, Both, Left, Right, By}
+use Rattle.sql_grammar.specs.Meaning.{literal_place}
+use Rattle.sql_grammar.specs.Sentence.{place}
 
 begins : (d : Tree (line literal)) (us : List Token) (end : ℕ) → literal_place d ≡ place (text d us) end
 begins (By (Left (Leaf t is))) us end = refl

@@ -1,9 +1,9 @@
 -- The tests of a condition, with what they have in common in front.
 use Rattle.std.proofs.Common.{◌≡◌, refl}
-use Rattle.sql_text.specs.declared.kinds.Kind.TheVariants as k
-use Rattle.sql_text.specs.Grammar.{Part, Tree, token, word, opt, line, comparisons, operand, Both, Left, Right, ◌▸◌, ◌∣◌}
-use Rattle.sql_text.specs.Meaning.{tests, test_of, range, list, predicates, predicate_of, compare, operand_of, op_of}
-use Rattle.sql_text.proofs.Same.{Same, factored, at_right_same, then_same}
+use Rattle.sql_grammar.specs.declared.kinds.Kind.TheVariants as k
+use Rattle.sql_grammar.specs.Grammar.{Part, Tree, token, word, opt, line, comparisons, operand, Both, Left, Right, ◌▸◌, ◌∣◌}
+use Rattle.sql_grammar.specs.Meaning.{tests, test_of, range, list, predicates, predicate_of, compare, operand_of, op_of}
+use Rattle.sql_grammar.proofs.Same.{Same, factored, at_right_same, then_same}
 
 abbrev pub compared : Part
 compared = token comparisons ▸ line operand

@@ -1,16 +1,14 @@
 // Conditions. A parenthesis and a NOT open a level each; the conditions that OR and AND join are read by loops.
 ghost use Rattle.std.specs.Prelude.{◌≡◌, ◌∷◌, ℕ, List};
-ghost use Rattle.sql_text.specs.Meaning.{cond_of, conj_of, neg_of, prim_of, literal_list_of, range_of, list_of, predicate_of, test_of, operand_of, text_of, joined, compare, between, in_list, like};
-ghost use Rattle.sql_text.specs.Reading.{Gives};
+ghost use Rattle.sql_grammar.specs.Meaning.{cond_of, conj_of, neg_of, prim_of, literal_list_of, range_of, list_of, predicate_of, test_of, operand_of, text_of, joined, compare, between, in_list, like};
+ghost use Rattle.sql_grammar.specs.Reading.{Gives};
 
-use crate::errors::ParseError;
-use crate::kinds::Kind;
 use crate::operands::operand;
-use crate::reading::{
-    after, appended, comparison, expect, first_is, followed, literal, paired, passes, text,
-};
-use crate::tree::{Cond, Expr, Op};
 use rpt_base::{Listed, Value};
+use sql_grammar::{
+    Cond, Expr, Kind, Op, ParseError, after, appended, comparison, expect, first_is, followed,
+    literal, paired, passes, text,
+};
 use sql_lex::Token;
 use sqlite_items::{Boxed, Items as Members};
 use std::alloc::Global;

@@ -1,17 +1,13 @@
-//! The syntax tree of a script.
+//! The syntax tree of a script's tokens.
 #![tactic(auto)]
 
 mod conditions;
-mod errors;
-mod kinds;
 mod operands;
 mod parsing;
-mod reading;
 mod sources;
-mod tree;
 
-pub use errors::ParseError;
 pub use parsing::parse;
-pub use tree::{
-    Alias, ColumnItem, ColumnName, Cond, CreateTable, Expr, Item, Items, Op, Script, Select, Source,
+pub use sql_grammar::{
+    Alias, ColumnItem, ColumnName, Cond, CreateTable, Expr, Item, Items, Op, ParseError, Script,
+    Select, Source,
 };

@@ -1,12 +1,11 @@
 // Columns and operands.
 ghost use Rattle.std.specs.Prelude.{◌≡◌, ℕ};
-ghost use Rattle.sql_text.specs.Meaning.{colref_of, operand_of};
-ghost use Rattle.sql_text.specs.Reading.{Gives};
+ghost use Rattle.sql_grammar.specs.Meaning.{colref_of, operand_of};
+ghost use Rattle.sql_grammar.specs.Reading.{Gives};
 
-use crate::errors::ParseError;
-use crate::kinds::Kind;
-use crate::reading::{after, begins_name, literal, name, paired, place_of};
-use crate::tree::{ColumnName, Expr};
+use sql_grammar::{
+    ColumnName, Expr, Kind, ParseError, after, begins_name, literal, name, paired, place_of,
+};
 use sql_lex::Token;
 use std::alloc::Global;
 

@@ -1,20 +1,18 @@
 // A script: what it declares, and what it selects.
 ghost use Rattle.std.specs.Prelude.{◌≡◌, ◌⊎◌, ℕ, length, IfOk, IfErr, Result, Err};
-ghost use Rattle.sql_text.specs.declared.tree.Script.{Script as Tree};
-ghost use Rattle.sql_text.specs.declared.errors.ParseError.{ParseError as Error};
-ghost use Rattle.sql_text.specs.Meaning.{column_of, column_list_of, create_of, creates_of, script_of};
-ghost use Rattle.sql_text.specs.Formed.{IsWellFormed};
-ghost use Rattle.sql_text.specs.Reading.{Gives};
-ghost use Rattle.sql_text.specs.Sentence.{IsSentence, IsSyntaxError, IsTooDeep, IsReading, place};
+ghost use Rattle.sql_grammar.specs.declared.tree.Script.{Script as Tree};
+ghost use Rattle.sql_grammar.specs.declared.errors.ParseError.{ParseError as Error};
+ghost use Rattle.sql_grammar.specs.Meaning.{column_of, column_list_of, create_of, creates_of, script_of};
+ghost use Rattle.sql_grammar.specs.Formed.{IsWellFormed};
+ghost use Rattle.sql_grammar.specs.Reading.{Gives};
+ghost use Rattle.sql_grammar.specs.Sentence.{IsSentence, IsSyntaxError, IsTooDeep, IsReading, place};
 
-use crate::errors::ParseError;
-use crate::kinds::Kind;
-use crate::reading::{
-    after, appended, begins_with, column_type, expect, followed, name, paired, passes, place_of,
-};
 use crate::sources::select;
-use crate::tree::{ColumnItem, CreateTable, Script};
 use rpt_base::Listed;
+use sql_grammar::{
+    ColumnItem, CreateTable, Kind, ParseError, Script, after, appended, begins_with, column_type,
+    expect, followed, name, paired, passes, place_of,
+};
 use sql_lex::Token;
 use std::alloc::Global;
 

@@ -1,19 +1,17 @@
 // What is selected, and from where.
 ghost use Rattle.std.specs.Prelude.{◌≡◌, ℕ, IsTrue, ◌↔◌, [], ◌∷◌, ◌++◌};
-ghost use Rattle.sql_text.specs.declared.kinds.Kind.TheVariants as kind;
-ghost use Rattle.sql_text.specs.Kinds.{code};
-ghost use Rattle.sql_text.specs.Meaning.{alias_of, title_of as title_said, item_of, item_list_of, items_of, factor_of, unjoined, joined_on, join_of, joins_of, source_list_of, source_of, filter_of, select_of};
-ghost use Rattle.sql_text.specs.Reading.{Gives, Heads};
+ghost use Rattle.sql_grammar.specs.declared.kinds.Kind.TheVariants as kind;
+ghost use Rattle.sql_grammar.specs.Kinds.{code};
+ghost use Rattle.sql_grammar.specs.Meaning.{alias_of, title_of as title_said, item_of, item_list_of, items_of, factor_of, unjoined, joined_on, join_of, joins_of, source_list_of, source_of, filter_of, select_of};
+ghost use Rattle.sql_grammar.specs.Reading.{Gives, Heads};
 
 use crate::conditions::cond;
-use crate::errors::ParseError;
-use crate::kinds::Kind;
 use crate::operands::colref;
-use crate::reading::{
-    after, appended, begins_name, begins_with, expect, followed, name, paired, passes,
-};
-use crate::tree::{Alias, Cond, Item, Items, Select, Source};
 use rpt_base::{Listed, Name};
+use sql_grammar::{
+    Alias, Cond, Item, Items, Kind, ParseError, Select, Source, after, appended, begins_name,
+    begins_with, expect, followed, name, paired, passes,
+};
 use sql_lex::Token;
 use std::alloc::Global;
 

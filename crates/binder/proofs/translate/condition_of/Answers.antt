@@ -3,7 +3,7 @@ use Rattle.std.specs.List.{flat_map}
 use Rattle.std.specs.Option.{option_to_list}
 use Rattle.std.proofs.lemmas.List.{take_all}
 use Rattle.predicate.specs.declared.tree.Pred.TheVariants as pred
-use Rattle.sql_text.specs.declared.tree.Source.{Source}
+use Rattle.sql_grammar.specs.declared.tree.Source.{Source}
 use Rattle.script_rules.specs.Scope.{scope_of}
 use Rattle.script_rules.specs.Conjuncts.{parts_of}
 use Rattle.binder.specs.Binding.{condition_of}

@@ -1,5 +1,5 @@
 use Rattle.std.proofs.Common.{◌∙◌, ◌+◌, [], List, ap, sym, subst, arith}
-use Rattle.sql_text.specs.declared.tree.CreateTable.{CreateTable}
+use Rattle.sql_grammar.specs.declared.tree.CreateTable.{CreateTable}
 use Rattle.column_table.specs.declared.declared.Decl.{Decl}
 use Rattle.binder.specs.Binding.{tables_behind, with_table}
 use Rattle.binder.proofs.UsedFacts.{IsUsedTo, used-more, used-end}

@@ -1,7 +1,7 @@
 use Rattle.std.proofs.Common.{◌≡◌, ◌∙◌, ◌++◌, ap, sym, subst, arith, List}
 use Rattle.std.specs.Prelude.{OnOk}
 use Rattle.std.specs.List.{flat_map}
-use Rattle.sql_text.specs.declared.tree.Cond.{Cond}
+use Rattle.sql_grammar.specs.declared.tree.Cond.{Cond}
 use Rattle.column_classes.specs.declared.columns.Equality.{Equality}
 use Rattle.script_rules.specs.Scope.{scope_of}
 use Rattle.script_rules.specs.Conjuncts.{parts_of}

@@ -1,7 +1,7 @@
 use Rattle.std.proofs.Common.{◌∙◌, ◌++◌, [], ap, sym, arith, List}
 use Rattle.std.specs.List.{flat_map}
 use Rattle.std.specs.Option.{option_to_list}
-use Rattle.sql_text.specs.declared.tree.Source.{Source}
+use Rattle.sql_grammar.specs.declared.tree.Source.{Source}
 use Rattle.column_classes.specs.declared.columns.Equality.{Equality}
 use Rattle.script_rules.specs.Scope.{scope_of}
 use Rattle.binder.specs.Binding.{equality_of}

@@ -2,7 +2,7 @@ use Rattle.std.proofs.Common.{◌∙◌, ◌+◌, List, ap, sym, subst, arith}
 use Rattle.std.specs.Prelude.{Option}
 use Rattle.std.specs.List.{flat_map}
 use Rattle.std.proofs.lemmas.List.{append-nil}
-use Rattle.sql_text.specs.declared.tree.Cond.{Cond}
+use Rattle.sql_grammar.specs.declared.tree.Cond.{Cond}
 use Rattle.script_rules.specs.declared.found.Fault.{Fault}
 use Rattle.script_rules.specs.Scope.{scope_of}
 use Rattle.script_rules.specs.Conjuncts.{parts_of}

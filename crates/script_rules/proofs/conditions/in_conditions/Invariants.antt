@@ -1,6 +1,6 @@
 use Rattle.std.specs.Prelude.{None}
 use Rattle.std.specs.Option.{option_to_list}
-use Rattle.sql_text.specs.declared.tree.Source.{Source}
+use Rattle.sql_grammar.specs.declared.tree.Source.{Source}
 use Rattle.script_rules.specs.Scope.{scope_of}
 use Rattle.script_rules.proofs.FaultFacts.{IsNoted}
 use Rattle.script_rules.proofs.ConjunctFacts.{faults_in}

@@ -1,6 +1,6 @@
 use Rattle.std.proofs.Common.{◌∙◌, ◌+◌, List, ap, sym, subst, arith}
 use Rattle.std.specs.Prelude.{Option, None}
-use Rattle.sql_text.specs.declared.tree.Item.{Item}
+use Rattle.sql_grammar.specs.declared.tree.Item.{Item}
 use Rattle.script_rules.specs.declared.found.Fault.{Fault}
 use Rattle.script_rules.specs.Scope.{scope_of}
 use Rattle.script_rules.specs.Faults.{first_of, reference_faults}

@@ -1,5 +1,5 @@
 use Rattle.std.specs.Prelude.{None}
-use Rattle.sql_text.specs.declared.tree.Item.{Item}
+use Rattle.sql_grammar.specs.declared.tree.Item.{Item}
 use Rattle.script_rules.specs.Scope.{scope_of}
 use Rattle.script_rules.specs.Faults.{reference_faults}
 use Rattle.script_rules.proofs.FaultFacts.{IsNoted}

@@ -1,7 +1,7 @@
 use Rattle.std.proofs.Common.{sym, subst, codes, List, Bool}
 use Rattle.std.specs.Prelude.{OnOk}
-use Rattle.sql_text.specs.declared.tree.Cond.{Cond}
-use Rattle.sql_text.specs.declared.tree.Cond.TheVariants as condition
+use Rattle.sql_grammar.specs.declared.tree.Cond.{Cond}
+use Rattle.sql_grammar.specs.declared.tree.Cond.TheVariants as condition
 use Rattle.sql_print.specs.declared.conditions.Room.TheVariants as room
 use Rattle.sql_print.specs.Pieces.{word}
 use Rattle.sql_print.specs.Printed.{cond_pieces, members_pieces, in_parens, and_is_wrapped, or_is_wrapped}

@@ -1,5 +1,5 @@
 use Rattle.std.proofs.Common.{sym, subst, Option}
-use Rattle.sql_text.specs.declared.tree.Cond.{Cond}
+use Rattle.sql_grammar.specs.declared.tree.Cond.{Cond}
 use Rattle.sql_print.specs.Printed.{next_source}
 use Rattle.sql_print.specs.Puts.{Puts}
 use Rattle.sql_print.proofs.Putting.{then}

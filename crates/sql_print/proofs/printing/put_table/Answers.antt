@@ -1,5 +1,5 @@
 use Rattle.std.proofs.Common.{subst, List}
-use Rattle.sql_text.specs.declared.tree.ColumnItem.{ColumnItem}
+use Rattle.sql_grammar.specs.declared.tree.ColumnItem.{ColumnItem}
 use Rattle.sql_lex.specs.declared.tokens.Mark.TheVariants as m
 use Rattle.sql_print.specs.Pieces.{mark}
 use Rattle.sql_print.specs.Printed.{between_all, declared_pieces}

@@ -1,16 +1,16 @@
 use Rattle.std.proofs.Common.{◌≡◌, ◌+◌, ◌-◌, length, arith, refl, sym, ap, ◌∙◌, [], ◌∷◌}
 use Rattle.std.proofs.lemmas.Result.{err_from_is_err_and}
-use Rattle.sql_text.specs.declared.kinds.Kind.TheVariants as k
-use Rattle.sql_text.specs.Kinds.{code}
-use Rattle.sql_text.specs.Grammar.{Part, Tree, token, word, many, opt, level, line, name, names, types, comparisons, magnitudes, None, Left, Right, Both, In, By, ◌▸◌, ◌∣◌}
-use Rattle.sql_text.specs.Grammar as g
-use Rattle.sql_text.specs.declared.tree.Cond.{Cond}
-use Rattle.sql_text.specs.declared.tree.Cond.TheVariants as condition
-use Rattle.sql_text.specs.Meaning.{neg_of, prim_of, conj_of, conjs_of, negs_of, test_of, tests}
-use Rattle.sql_text.specs.Reading.{Starts}
-use Rattle.sql_text.proofs.Loops.{awaits_first, awaits_next, goes_append, goes_end}
+use Rattle.sql_grammar.specs.declared.kinds.Kind.TheVariants as k
+use Rattle.sql_grammar.specs.Kinds.{code}
+use Rattle.sql_grammar.specs.Grammar.{Part, Tree, token, word, many, opt, level, line, name, names, types, comparisons, magnitudes, None, Left, Right, Both, In, By, ◌▸◌, ◌∣◌}
+use Rattle.sql_grammar.specs.Grammar as g
+use Rattle.sql_grammar.specs.declared.tree.Cond.{Cond}
+use Rattle.sql_grammar.specs.declared.tree.Cond.TheVariants as condition
+use Rattle.sql_grammar.specs.Meaning.{neg_of, prim_of, conj_of, conjs_of, negs_of, test_of, tests}
+use Rattle.sql_grammar.specs.Reading.{Starts}
+use Rattle.sql_grammar.proofs.Loops.{awaits_first, awaits_next, goes_append, goes_end}
 use Rattle.sql_text.proofs.Members.{disjuncts, conjuncts, or_joins, and_joins}
-use Rattle.sql_text.proofs.Leads.{behind, at_line, at_left, at_right, at_level, opens, done, hands_on, fails, fails_first, other_kind, none_of, shorter, read_ok, append_err}
+use Rattle.sql_grammar.proofs.Leads.{behind, at_line, at_left, at_right, at_level, opens, done, hands_on, fails, fails_first, other_kind, none_of, shorter, read_ok, append_err}
 use Rattle.sql_text.proofs.conditions.+cond.Goals as goal
 
 abbrev not_neg : Part

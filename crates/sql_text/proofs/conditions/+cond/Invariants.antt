@@ -1,6 +1,6 @@
 use Rattle.std.proofs.Common.{◌+◌, ◌*◌, length, [], ◌∷◌}
-use Rattle.sql_text.specs.Meaning.{conj_of, neg_of, conjs_of, negs_of}
-use Rattle.sql_text.proofs.Loops.{Awaits}
+use Rattle.sql_grammar.specs.Meaning.{conj_of, neg_of, conjs_of, negs_of}
+use Rattle.sql_grammar.proofs.Loops.{Awaits}
 use Rattle.sql_text.proofs.Members.{disjuncts, conjuncts}
 use Rattle.sql_text.proofs.conditions.+cond.Given as goal
 

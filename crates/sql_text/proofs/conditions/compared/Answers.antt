@@ -1,11 +1,11 @@
 use Rattle.std.proofs.Common.{ℕ, sym, ap, ◌∙◌}
 use Rattle.std.proofs.lemmas.Result.{err_from_is_err_and}
-use Rattle.sql_text.specs.Grammar.{line}
-use Rattle.sql_text.specs.Grammar as g
-use Rattle.sql_text.specs.declared.tree.Expr.{Expr}
-use Rattle.sql_text.specs.declared.tree.Cond.TheVariants as condition
-use Rattle.sql_text.specs.Meaning.{operand_of, compare}
-use Rattle.sql_text.proofs.Leads.{itself, done, read_ok, read_err}
+use Rattle.sql_grammar.specs.Grammar.{line}
+use Rattle.sql_grammar.specs.Grammar as g
+use Rattle.sql_grammar.specs.declared.tree.Expr.{Expr}
+use Rattle.sql_grammar.specs.declared.tree.Cond.TheVariants as condition
+use Rattle.sql_grammar.specs.Meaning.{operand_of, compare}
+use Rattle.sql_grammar.proofs.Leads.{itself, done, read_ok, read_err}
 use Rattle.sql_text.proofs.conditions.compared.Goals as goal
 
 pub returns-in_err-left : goal.returns-in_err-left

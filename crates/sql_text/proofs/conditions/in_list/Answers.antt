@@ -1,10 +1,10 @@
 use Rattle.std.proofs.Common.{ℕ, sym, ap, ◌∙◌, List}
 use Rattle.std.proofs.lemmas.Result.{err_from_is_err_and}
 use Rattle.rpt_base.specs.declared.values.Value.{Value}
-use Rattle.sql_text.specs.declared.tree.Expr.{Expr}
-use Rattle.sql_text.specs.declared.tree.Cond.TheVariants as condition
-use Rattle.sql_text.specs.Meaning.{list_of, in_list, list}
-use Rattle.sql_text.proofs.Leads.{itself, done, read_ok, read_err}
+use Rattle.sql_grammar.specs.declared.tree.Expr.{Expr}
+use Rattle.sql_grammar.specs.declared.tree.Cond.TheVariants as condition
+use Rattle.sql_grammar.specs.Meaning.{list_of, in_list, list}
+use Rattle.sql_grammar.proofs.Leads.{itself, done, read_ok, read_err}
 use Rattle.sql_text.proofs.conditions.in_list.Goals as goal
 
 pub returns-in_err-operand : goal.returns-in_err-operand

@@ -1,11 +1,11 @@
 use Rattle.std.proofs.Common.{◌≡◌, refl, ◌∙◌}
 use Rattle.std.proofs.lemmas.Result.{err_from_is_err_and}
-use Rattle.sql_text.specs.declared.kinds.Kind.TheVariants as k
-use Rattle.sql_text.specs.Grammar.{Part, Tree, token, word, many, opt, level, line, name, names, types, comparisons, magnitudes, None, Left, Right, Both, In, By, ◌▸◌, ◌∣◌}
-use Rattle.sql_text.specs.Grammar as g
-use Rattle.sql_text.specs.Meaning.{list, list_of, literal_list_of}
-use Rattle.sql_text.proofs.Same.{regrouped, ungroup}
-use Rattle.sql_text.proofs.Leads.{itself, behind, at_same, hands_on, fails_first}
+use Rattle.sql_grammar.specs.declared.kinds.Kind.TheVariants as k
+use Rattle.sql_grammar.specs.Grammar.{Part, Tree, token, word, many, opt, level, line, name, names, types, comparisons, magnitudes, None, Left, Right, Both, In, By, ◌▸◌, ◌∣◌}
+use Rattle.sql_grammar.specs.Grammar as g
+use Rattle.sql_grammar.specs.Meaning.{list, list_of, literal_list_of}
+use Rattle.sql_grammar.proofs.Same.{regrouped, ungroup}
+use Rattle.sql_grammar.proofs.Leads.{itself, behind, at_same, hands_on, fails_first}
 use Rattle.sql_text.proofs.conditions.list.Goals as goal
 
 abbrev literal_list : Part

@@ -1,8 +1,8 @@
 use Rattle.std.proofs.Common.{length, arith, refl, ap, [], ◌∷◌}
 use Rattle.std.proofs.lemmas.Result.{err_from_is_err_and}
-use Rattle.sql_text.specs.Meaning.{literal_list_of, literal_of, literals_of}
-use Rattle.sql_text.proofs.Leads.{shorter, read_ok, append_err}
-use Rattle.sql_text.proofs.Loops.{awaits_first, awaits_next, goes_end, goes_append}
+use Rattle.sql_grammar.specs.Meaning.{literal_list_of, literal_of, literals_of}
+use Rattle.sql_grammar.proofs.Leads.{shorter, read_ok, append_err}
+use Rattle.sql_grammar.proofs.Loops.{awaits_first, awaits_next, goes_end, goes_append}
 use Rattle.sql_text.proofs.conditions.literals.Goals as goal
 
 pub loop-all-init : goal.loop-all-init

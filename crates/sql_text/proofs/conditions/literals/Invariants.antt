@@ -1,6 +1,6 @@
 use Rattle.std.proofs.Common.{ℕ, length, [], ◌∷◌}
-use Rattle.sql_text.specs.Meaning.{literal_list_of, literal_of, literals_of}
-use Rattle.sql_text.proofs.Loops.{Awaits}
+use Rattle.sql_grammar.specs.Meaning.{literal_list_of, literal_of, literals_of}
+use Rattle.sql_grammar.proofs.Loops.{Awaits}
 use Rattle.sql_text.proofs.conditions.literals.Given as goal
 
 abbrev pub invariant-loop-all : goal.invariant-loop-all

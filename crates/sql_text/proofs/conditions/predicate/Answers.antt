@@ -1,11 +1,11 @@
 use Rattle.std.proofs.Common.{refl, ap, ◌∙◌, [], ◌∷◌, Bool}
 use Rattle.std.proofs.lemmas.Result.{err_from_is_err_and}
-use Rattle.sql_text.specs.declared.kinds.Kind.TheVariants as k
-use Rattle.sql_text.specs.declared.tree.Expr.{Expr}
-use Rattle.sql_text.specs.Kinds.{code}
-use Rattle.sql_text.specs.Grammar.{Part, word, ◌▸◌, ◌∣◌}
-use Rattle.sql_text.specs.Meaning.{range, list, range_of, list_of, text_of, predicates, predicate_of, between, in_list, like}
-use Rattle.sql_text.proofs.Leads.{itself, behind, at_left, at_right, hands_on, fails_first, reads_kind, other_kind, none_of}
+use Rattle.sql_grammar.specs.declared.kinds.Kind.TheVariants as k
+use Rattle.sql_grammar.specs.declared.tree.Expr.{Expr}
+use Rattle.sql_grammar.specs.Kinds.{code}
+use Rattle.sql_grammar.specs.Grammar.{Part, word, ◌▸◌, ◌∣◌}
+use Rattle.sql_grammar.specs.Meaning.{range, list, range_of, list_of, text_of, predicates, predicate_of, between, in_list, like}
+use Rattle.sql_grammar.proofs.Leads.{itself, behind, at_left, at_right, hands_on, fails_first, reads_kind, other_kind, none_of}
 use Rattle.sql_text.proofs.conditions.predicate.Goals as goal
 
 abbrev ranged : Part

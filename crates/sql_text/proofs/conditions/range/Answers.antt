@@ -1,8 +1,8 @@
 use Rattle.std.proofs.Common.{refl, sym, ap, ◌∙◌}
 use Rattle.std.proofs.lemmas.Result.{err_from_is_err_and}
-use Rattle.sql_text.specs.declared.tree.Expr.{Expr}
-use Rattle.sql_text.specs.Meaning.{range, range_of, operand_of}
-use Rattle.sql_text.proofs.Leads.{itself, behind, beside, fails_first}
+use Rattle.sql_grammar.specs.declared.tree.Expr.{Expr}
+use Rattle.sql_grammar.specs.Meaning.{range, range_of, operand_of}
+use Rattle.sql_grammar.proofs.Leads.{itself, behind, beside, fails_first}
 use Rattle.sql_text.proofs.conditions.range.Goals as goal
 
 pub returns-in_err-low : goal.returns-in_err-low

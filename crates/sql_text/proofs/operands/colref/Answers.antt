@@ -1,13 +1,13 @@
 use Rattle.std.proofs.Common.{refl, sym, ap, ◌∙◌, [], ◌∷◌}
 use Rattle.std.proofs.lemmas.Result.{err_from_is_err_and}
-use Rattle.sql_text.specs.declared.kinds.Kind.TheVariants as k
-use Rattle.sql_text.specs.Kinds.{code}
-use Rattle.sql_text.specs.Grammar.{Part, Tree, token, word, many, opt, line, name, names, None, Left, Right, Both, ◌▸◌, ◌∣◌}
-use Rattle.sql_text.specs.Grammar as g
-use Rattle.sql_text.specs.declared.tree.Alias.{Alias}
-use Rattle.sql_text.specs.Meaning.{named, alone, within}
-use Rattle.sql_text.proofs.Choices.{reads_none}
-use Rattle.sql_text.proofs.Leads.{at_line, at_some, behind, done, fails, fails_first, reads_kind, begun, none_of, read_ok, read_err}
+use Rattle.sql_grammar.specs.declared.kinds.Kind.TheVariants as k
+use Rattle.sql_grammar.specs.Kinds.{code}
+use Rattle.sql_grammar.specs.Grammar.{Part, Tree, token, word, many, opt, line, name, names, None, Left, Right, Both, ◌▸◌, ◌∣◌}
+use Rattle.sql_grammar.specs.Grammar as g
+use Rattle.sql_grammar.specs.declared.tree.Alias.{Alias}
+use Rattle.sql_grammar.specs.Meaning.{named, alone, within}
+use Rattle.sql_grammar.proofs.Choices.{reads_none}
+use Rattle.sql_grammar.proofs.Leads.{at_line, at_some, behind, done, fails, fails_first, reads_kind, begun, none_of, read_ok, read_err}
 use Rattle.sql_text.proofs.operands.colref.Goals as goal
 
 abbrev dotted : Part

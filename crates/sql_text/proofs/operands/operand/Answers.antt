@@ -1,14 +1,14 @@
 use Rattle.std.proofs.Common.{ℕ, refl, sym, ap, ◌∙◌}
 use Rattle.std.proofs.lemmas.Result.{err_from_is_err_and}
-use Rattle.sql_text.specs.Kinds.{numbers}
-use Rattle.sql_text.specs.Grammar.{Part, Tree, token, word, many, opt, line, name, names, None, Left, Right, Both, ◌▸◌, ◌∣◌}
-use Rattle.sql_text.specs.Grammar as g
-use Rattle.sql_text.specs.declared.tree.ColumnName.{ColumnName}
-use Rattle.sql_text.specs.declared.tree.Expr.TheVariants as e
+use Rattle.sql_grammar.specs.Kinds.{numbers}
+use Rattle.sql_grammar.specs.Grammar.{Part, Tree, token, word, many, opt, line, name, names, None, Left, Right, Both, ◌▸◌, ◌∣◌}
+use Rattle.sql_grammar.specs.Grammar as g
+use Rattle.sql_grammar.specs.declared.tree.ColumnName.{ColumnName}
+use Rattle.sql_grammar.specs.declared.tree.Expr.TheVariants as e
 use Rattle.rpt_base.specs.declared.values.Value.{Value}
-use Rattle.sql_text.specs.Meaning.{literal_of}
+use Rattle.sql_grammar.specs.Meaning.{literal_of}
 use Rattle.sql_text.proofs.Placed.{literal_placed}
-use Rattle.sql_text.proofs.Leads.{at_line, at_left, at_right, done, fails, other_kinds, none_of}
+use Rattle.sql_grammar.proofs.Leads.{at_line, at_left, at_right, done, fails, other_kinds, none_of}
 use Rattle.sql_text.proofs.operands.operand.Goals as goal
 
 pub returns-in_err-column : goal.returns-in_err-column

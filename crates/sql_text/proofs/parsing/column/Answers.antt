@@ -1,11 +1,11 @@
 use Rattle.std.proofs.Common.{refl, ap, ◌∙◌}
 use Rattle.std.proofs.lemmas.Result.{err_from_is_err_and}
-use Rattle.sql_text.specs.Grammar.{Part, Tree, token, word, many, opt, level, line, name, names, types, comparisons, magnitudes, None, Left, Right, Both, In, By, ◌▸◌, ◌∣◌}
-use Rattle.sql_text.specs.Grammar as g
+use Rattle.sql_grammar.specs.Grammar.{Part, Tree, token, word, many, opt, level, line, name, names, types, comparisons, magnitudes, None, Left, Right, Both, In, By, ◌▸◌, ◌∣◌}
+use Rattle.sql_grammar.specs.Grammar as g
 use Rattle.rpt_base.specs.declared.values.ColumnType.{ColumnType}
-use Rattle.sql_text.specs.declared.tree.Alias.{Alias}
-use Rattle.sql_text.specs.Meaning.{typed, type_of}
-use Rattle.sql_text.proofs.Leads.{at_line, behind, done, fails, fails_first}
+use Rattle.sql_grammar.specs.declared.tree.Alias.{Alias}
+use Rattle.sql_grammar.specs.Meaning.{typed, type_of}
+use Rattle.sql_grammar.proofs.Leads.{at_line, behind, done, fails, fails_first}
 use Rattle.sql_text.proofs.parsing.column.Goals as goal
 
 pub returns-in_err-column : goal.returns-in_err-column

@@ -1,6 +1,6 @@
 use Rattle.std.proofs.Common.{ℕ, length, [], ◌∷◌}
-use Rattle.sql_text.specs.Meaning.{column_list_of, column_of, more_columns_of}
-use Rattle.sql_text.proofs.Loops.{Awaits}
+use Rattle.sql_grammar.specs.Meaning.{column_list_of, column_of, more_columns_of}
+use Rattle.sql_grammar.proofs.Loops.{Awaits}
 use Rattle.sql_text.proofs.parsing.columns.Given as goal
 
 abbrev pub invariant-loop-all : goal.invariant-loop-all

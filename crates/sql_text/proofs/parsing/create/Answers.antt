@@ -1,13 +1,13 @@
 use Rattle.std.proofs.Common.{◌≡◌, refl, sym, ap, ◌∙◌, List}
 use Rattle.std.proofs.lemmas.Result.{err_from_is_err_and}
-use Rattle.sql_text.specs.declared.kinds.Kind.TheVariants as k
-use Rattle.sql_text.specs.Grammar.{Part, Tree, token, word, many, opt, level, line, name, names, types, comparisons, magnitudes, None, Left, Right, Both, In, By, ◌▸◌, ◌∣◌}
-use Rattle.sql_text.specs.Grammar as g
-use Rattle.sql_text.specs.declared.tree.Alias.{Alias}
-use Rattle.sql_text.specs.declared.tree.ColumnItem.{ColumnItem}
-use Rattle.sql_text.specs.Meaning.{create_of, created, named, column_list_of}
-use Rattle.sql_text.proofs.Same.{regrouped, ungroup}
-use Rattle.sql_text.proofs.Leads.{at_line, at_same, behind, done, fails, fails_first, read_ok, read_err}
+use Rattle.sql_grammar.specs.declared.kinds.Kind.TheVariants as k
+use Rattle.sql_grammar.specs.Grammar.{Part, Tree, token, word, many, opt, level, line, name, names, types, comparisons, magnitudes, None, Left, Right, Both, In, By, ◌▸◌, ◌∣◌}
+use Rattle.sql_grammar.specs.Grammar as g
+use Rattle.sql_grammar.specs.declared.tree.Alias.{Alias}
+use Rattle.sql_grammar.specs.declared.tree.ColumnItem.{ColumnItem}
+use Rattle.sql_grammar.specs.Meaning.{create_of, created, named, column_list_of}
+use Rattle.sql_grammar.proofs.Same.{regrouped, ungroup}
+use Rattle.sql_grammar.proofs.Leads.{at_line, at_same, behind, done, fails, fails_first, read_ok, read_err}
 use Rattle.sql_text.proofs.parsing.create.Goals as goal
 
 abbrev more_columns : Part

@@ -1,6 +1,6 @@
 use Rattle.std.proofs.Common.{ℕ, length, []}
-use Rattle.sql_text.specs.Meaning.{creates_of}
-use Rattle.sql_text.proofs.Loops.{Grows}
+use Rattle.sql_grammar.specs.Meaning.{creates_of}
+use Rattle.sql_grammar.proofs.Loops.{Grows}
 use Rattle.sql_text.proofs.parsing.creates.Given as goal
 
 abbrev pub invariant-loop-alloc : goal.invariant-loop-alloc

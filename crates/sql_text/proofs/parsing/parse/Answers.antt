@@ -1,9 +1,9 @@
 use Rattle.std.proofs.Common.{ap, inl, inr, Result, Err}
 use Rattle.std.proofs.lemmas.Result.{err_from_is_err_and}
-use Rattle.sql_text.specs.declared.errors.ParseError.{ParseError}
-use Rattle.sql_text.specs.declared.tree.Script.{Script}
+use Rattle.sql_grammar.specs.declared.errors.ParseError.{ParseError}
+use Rattle.sql_grammar.specs.declared.tree.Script.{Script}
 use Rattle.sql_text.proofs.Alone.{alone_ok, alone_formed, alone_syntax, alone_deep, alone_only}
-use Rattle.sql_text.proofs.Whole.{only_refused}
+use Rattle.sql_grammar.proofs.Whole.{only_refused}
 use Rattle.sql_text.proofs.parsing.parse.Goals as goal
 
 pub returns-in_err-script-clause-only : goal.returns-in_err-script-clause-only

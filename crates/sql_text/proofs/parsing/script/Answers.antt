@@ -1,11 +1,11 @@
 use Rattle.std.proofs.Common.{refl, ap, ◌∙◌, List}
 use Rattle.std.proofs.lemmas.Result.{err_from_is_err_and}
-use Rattle.sql_text.specs.Grammar.{Part, Tree, token, word, many, opt, level, line, name, names, types, comparisons, magnitudes, None, Left, Right, Both, In, By, ◌▸◌, ◌∣◌}
-use Rattle.sql_text.specs.Grammar as g
-use Rattle.sql_text.specs.declared.tree.CreateTable.{CreateTable}
-use Rattle.sql_text.specs.declared.tree.Select.{Select}
-use Rattle.sql_text.specs.Meaning.{scripted, select_of}
-use Rattle.sql_text.proofs.Leads.{at_line, behind, done, fails_first}
+use Rattle.sql_grammar.specs.Grammar.{Part, Tree, token, word, many, opt, level, line, name, names, types, comparisons, magnitudes, None, Left, Right, Both, In, By, ◌▸◌, ◌∣◌}
+use Rattle.sql_grammar.specs.Grammar as g
+use Rattle.sql_grammar.specs.declared.tree.CreateTable.{CreateTable}
+use Rattle.sql_grammar.specs.declared.tree.Select.{Select}
+use Rattle.sql_grammar.specs.Meaning.{scripted, select_of}
+use Rattle.sql_grammar.proofs.Leads.{at_line, behind, done, fails_first}
 use Rattle.sql_text.proofs.parsing.script.Goals as goal
 
 pub returns-in_err-tables : goal.returns-in_err-tables

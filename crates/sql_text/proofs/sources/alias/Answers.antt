@@ -1,13 +1,13 @@
 use Rattle.std.proofs.Common.{refl, ap, [], ◌∷◌, Some}
 use Rattle.std.proofs.lemmas.Result.{err_from_is_err_and}
-use Rattle.sql_text.specs.declared.kinds.Kind.TheVariants as k
-use Rattle.sql_text.specs.Kinds.{code, numbers}
-use Rattle.sql_text.specs.Grammar.{Part, word, opt, name, names, None, Left, ◌▸◌}
-use Rattle.sql_text.specs.declared.tree.Alias.{Alias}
-use Rattle.sql_text.specs.Reading.{Heads, first}
-use Rattle.sql_text.proofs.Sets.{Heads_subset, Heads_neither}
-use Rattle.sql_text.proofs.Choices.{reads_none, reads_some}
-use Rattle.sql_text.proofs.Leads.{itself, behind, at_some, done, fails, begun, reads_kind, not_this, none_of}
+use Rattle.sql_grammar.specs.declared.kinds.Kind.TheVariants as k
+use Rattle.sql_grammar.specs.Kinds.{code, numbers}
+use Rattle.sql_grammar.specs.Grammar.{Part, word, opt, name, names, None, Left, ◌▸◌}
+use Rattle.sql_grammar.specs.declared.tree.Alias.{Alias}
+use Rattle.sql_grammar.specs.Reading.{Heads, first}
+use Rattle.sql_grammar.proofs.Sets.{Heads_subset, Heads_neither}
+use Rattle.sql_grammar.proofs.Choices.{reads_none, reads_some}
+use Rattle.sql_grammar.proofs.Leads.{itself, behind, at_some, done, fails, begun, reads_kind, not_this, none_of}
 use Rattle.sql_text.proofs.sources.alias.Goals as goal
 
 abbrev named_part : Part

@@ -1,8 +1,8 @@
 use Rattle.std.proofs.Common.{sym, ◌∙◌}
 use Rattle.std.proofs.lemmas.Result.{err_from_is_err_and}
-use Rattle.sql_text.specs.Grammar.{line}
-use Rattle.sql_text.specs.Grammar as g
-use Rattle.sql_text.proofs.Leads.{itself, done, fails}
+use Rattle.sql_grammar.specs.Grammar.{line}
+use Rattle.sql_grammar.specs.Grammar as g
+use Rattle.sql_grammar.proofs.Leads.{itself, done, fails}
 use Rattle.sql_text.proofs.sources.factor.Goals as goal
 
 pub returns-in_err-table : goal.returns-in_err-table

@@ -1,12 +1,12 @@
 use Rattle.std.proofs.Common.{refl, ap, [], ◌∷◌, Some}
 use Rattle.std.proofs.lemmas.Result.{err_from_is_err_and}
-use Rattle.sql_text.specs.declared.kinds.Kind.TheVariants as k
-use Rattle.sql_text.specs.Kinds.{code}
-use Rattle.sql_text.specs.Grammar.{Part, Tree, token, word, many, opt, level, line, name, names, types, comparisons, magnitudes, None, Left, Right, Both, In, By, ◌▸◌, ◌∣◌}
-use Rattle.sql_text.specs.Grammar as g
-use Rattle.sql_text.specs.declared.tree.Cond.{Cond}
-use Rattle.sql_text.proofs.Choices.{reads_none}
-use Rattle.sql_text.proofs.Leads.{itself, behind, at_some, done, fails, begun, reads_kind, none_of}
+use Rattle.sql_grammar.specs.declared.kinds.Kind.TheVariants as k
+use Rattle.sql_grammar.specs.Kinds.{code}
+use Rattle.sql_grammar.specs.Grammar.{Part, Tree, token, word, many, opt, level, line, name, names, types, comparisons, magnitudes, None, Left, Right, Both, In, By, ◌▸◌, ◌∣◌}
+use Rattle.sql_grammar.specs.Grammar as g
+use Rattle.sql_grammar.specs.declared.tree.Cond.{Cond}
+use Rattle.sql_grammar.proofs.Choices.{reads_none}
+use Rattle.sql_grammar.proofs.Leads.{itself, behind, at_some, done, fails, begun, reads_kind, none_of}
 use Rattle.sql_text.proofs.sources.filter.Goals as goal
 
 abbrev where_cond : Part

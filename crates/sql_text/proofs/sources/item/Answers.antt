@@ -1,12 +1,12 @@
 use Rattle.std.proofs.Common.{ℕ, refl, sym, ap, ◌∙◌, List, Option}
 use Rattle.std.proofs.lemmas.Result.{err_from_is_err_and}
-use Rattle.sql_text.specs.Grammar.{Part, Tree, token, word, many, opt, level, line, name, names, types, comparisons, magnitudes, None, Left, Right, Both, In, By, ◌▸◌, ◌∣◌}
-use Rattle.sql_text.specs.Grammar as g
-use Rattle.sql_text.specs.declared.tree.Alias.{Alias}
-use Rattle.sql_text.specs.declared.tree.ColumnName.{ColumnName}
-use Rattle.sql_text.specs.declared.tree.Item.{Item}
-use Rattle.sql_text.specs.Meaning.{titled, alias_of}
-use Rattle.sql_text.proofs.Leads.{at_line, behind, done, fails, fails_first}
+use Rattle.sql_grammar.specs.Grammar.{Part, Tree, token, word, many, opt, level, line, name, names, types, comparisons, magnitudes, None, Left, Right, Both, In, By, ◌▸◌, ◌∣◌}
+use Rattle.sql_grammar.specs.Grammar as g
+use Rattle.sql_grammar.specs.declared.tree.Alias.{Alias}
+use Rattle.sql_grammar.specs.declared.tree.ColumnName.{ColumnName}
+use Rattle.sql_grammar.specs.declared.tree.Item.{Item}
+use Rattle.sql_grammar.specs.Meaning.{titled, alias_of}
+use Rattle.sql_grammar.proofs.Leads.{at_line, behind, done, fails, fails_first}
 use Rattle.sql_text.proofs.sources.item.Goals as goal
 
 pub returns-in_err-column : goal.returns-in_err-column

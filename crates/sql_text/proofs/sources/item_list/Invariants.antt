@@ -1,6 +1,6 @@
 use Rattle.std.proofs.Common.{ℕ, length, [], ◌∷◌}
-use Rattle.sql_text.specs.Meaning.{item_list_of, item_of, more_items_of}
-use Rattle.sql_text.proofs.Loops.{Awaits}
+use Rattle.sql_grammar.specs.Meaning.{item_list_of, item_of, more_items_of}
+use Rattle.sql_grammar.proofs.Loops.{Awaits}
 use Rattle.sql_text.proofs.sources.item_list.Given as goal
 
 abbrev pub invariant-loop-all : goal.invariant-loop-all

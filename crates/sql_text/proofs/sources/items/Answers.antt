@@ -1,11 +1,11 @@
 use Rattle.std.proofs.Common.{refl, ap, List}
 use Rattle.std.proofs.lemmas.Result.{err_from_is_err_and}
-use Rattle.sql_text.specs.declared.kinds.Kind.TheVariants as k
-use Rattle.sql_text.specs.Grammar.{Part, Tree, token, word, many, opt, level, line, name, names, types, comparisons, magnitudes, None, Left, Right, Both, In, By, ◌▸◌, ◌∣◌}
-use Rattle.sql_text.specs.Grammar as g
-use Rattle.sql_text.specs.declared.tree.Item.{Item}
-use Rattle.sql_text.specs.declared.tree.Items.TheVariants as i
-use Rattle.sql_text.proofs.Leads.{at_line, at_left, at_right, done, fails, found, reads_kind, other_kind, not_this}
+use Rattle.sql_grammar.specs.declared.kinds.Kind.TheVariants as k
+use Rattle.sql_grammar.specs.Grammar.{Part, Tree, token, word, many, opt, level, line, name, names, types, comparisons, magnitudes, None, Left, Right, Both, In, By, ◌▸◌, ◌∣◌}
+use Rattle.sql_grammar.specs.Grammar as g
+use Rattle.sql_grammar.specs.declared.tree.Item.{Item}
+use Rattle.sql_grammar.specs.declared.tree.Items.TheVariants as i
+use Rattle.sql_grammar.proofs.Leads.{at_line, at_left, at_right, done, fails, found, reads_kind, other_kind, not_this}
 use Rattle.sql_text.proofs.sources.items.Goals as goal
 
 abbrev whole : Part

@@ -1,10 +1,10 @@
 use Rattle.std.proofs.Common.{refl, sym, ap, ◌∙◌, Option}
 use Rattle.std.proofs.lemmas.Result.{err_from_is_err_and}
-use Rattle.sql_text.specs.declared.tree.Alias.{Alias}
-use Rattle.sql_text.specs.declared.tree.Cond.{Cond}
-use Rattle.sql_text.specs.declared.tree.Source.{Source}
-use Rattle.sql_text.specs.Meaning.{join, unjoined, joined_on, cond_of}
-use Rattle.sql_text.proofs.Leads.{itself, behind, done, fails, fails_first, read_ok, read_err}
+use Rattle.sql_grammar.specs.declared.tree.Alias.{Alias}
+use Rattle.sql_grammar.specs.declared.tree.Cond.{Cond}
+use Rattle.sql_grammar.specs.declared.tree.Source.{Source}
+use Rattle.sql_grammar.specs.Meaning.{join, unjoined, joined_on, cond_of}
+use Rattle.sql_grammar.proofs.Leads.{itself, behind, done, fails, fails_first, read_ok, read_err}
 use Rattle.sql_text.proofs.sources.join.Goals as goal
 
 pub returns-in_err-rest : goal.returns-in_err-rest

@@ -1,11 +1,11 @@
 use Rattle.std.proofs.Common.{refl, ap, [], ◌∷◌}
 use Rattle.std.proofs.lemmas.Result.{err_from_is_err_and}
-use Rattle.sql_text.specs.declared.kinds.Kind.TheVariants as k
-use Rattle.sql_text.specs.Kinds.{code}
-use Rattle.sql_text.proofs.Loops.{grows_start, grows_more, grows_end, shorter_by}
-use Rattle.sql_text.proofs.Leads.{fails_item, none_of, read_ok, append_err}
-use Rattle.sql_text.specs.declared.tree.Source.{Source}
-use Rattle.sql_text.specs.Meaning.{join, join_of, joins_of}
+use Rattle.sql_grammar.specs.declared.kinds.Kind.TheVariants as k
+use Rattle.sql_grammar.specs.Kinds.{code}
+use Rattle.sql_grammar.proofs.Loops.{grows_start, grows_more, grows_end, shorter_by}
+use Rattle.sql_grammar.proofs.Leads.{fails_item, none_of, read_ok, append_err}
+use Rattle.sql_grammar.specs.declared.tree.Source.{Source}
+use Rattle.sql_grammar.specs.Meaning.{join, join_of, joins_of}
 use Rattle.sql_text.proofs.sources.joins.Goals as goal
 
 pub loop-alloc-init : goal.loop-alloc-init

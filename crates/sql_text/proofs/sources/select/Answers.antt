@@ -1,14 +1,14 @@
 use Rattle.std.proofs.Common.{◌≡◌, refl, sym, ap, ◌∙◌, List, Option}
 use Rattle.std.proofs.lemmas.Result.{err_from_is_err_and}
-use Rattle.sql_text.specs.declared.kinds.Kind.TheVariants as k
-use Rattle.sql_text.specs.Grammar.{Part, Tree, token, word, many, opt, level, line, name, names, types, comparisons, magnitudes, None, Left, Right, Both, In, By, ◌▸◌, ◌∣◌}
-use Rattle.sql_text.specs.Grammar as g
-use Rattle.sql_text.specs.declared.tree.Cond.{Cond}
-use Rattle.sql_text.specs.declared.tree.Items.{Items}
-use Rattle.sql_text.specs.declared.tree.Source.{Source}
-use Rattle.sql_text.specs.Meaning.{select_of, selected, items_of, source_list_of, filter_of}
-use Rattle.sql_text.proofs.Same.{regrouped, ungroup}
-use Rattle.sql_text.proofs.Leads.{at_line, at_same, behind, done, fails, fails_first, read_ok, read_err}
+use Rattle.sql_grammar.specs.declared.kinds.Kind.TheVariants as k
+use Rattle.sql_grammar.specs.Grammar.{Part, Tree, token, word, many, opt, level, line, name, names, types, comparisons, magnitudes, None, Left, Right, Both, In, By, ◌▸◌, ◌∣◌}
+use Rattle.sql_grammar.specs.Grammar as g
+use Rattle.sql_grammar.specs.declared.tree.Cond.{Cond}
+use Rattle.sql_grammar.specs.declared.tree.Items.{Items}
+use Rattle.sql_grammar.specs.declared.tree.Source.{Source}
+use Rattle.sql_grammar.specs.Meaning.{select_of, selected, items_of, source_list_of, filter_of}
+use Rattle.sql_grammar.proofs.Same.{regrouped, ungroup}
+use Rattle.sql_grammar.proofs.Leads.{at_line, at_same, behind, done, fails, fails_first, read_ok, read_err}
 use Rattle.sql_text.proofs.sources.select.Goals as goal
 
 abbrev more_sources : Part

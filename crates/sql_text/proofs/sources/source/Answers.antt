@@ -1,10 +1,10 @@
 use Rattle.std.proofs.Common.{refl, ◌∙◌, ◌++◌}
 use Rattle.std.proofs.lemmas.Result.{err_from_is_err_and}
-use Rattle.sql_text.specs.Grammar.{Part, Tree, token, word, many, opt, level, line, name, names, types, comparisons, magnitudes, None, Left, Right, Both, In, By, ◌▸◌, ◌∣◌}
-use Rattle.sql_text.specs.Grammar as g
-use Rattle.sql_text.specs.Meaning.{factor_of, joins_of, source_of}
-use Rattle.sql_text.proofs.Loops.{pushed}
-use Rattle.sql_text.proofs.Leads.{at_line, behind, hands_on, fails_first, read_ok, append_err}
+use Rattle.sql_grammar.specs.Grammar.{Part, Tree, token, word, many, opt, level, line, name, names, types, comparisons, magnitudes, None, Left, Right, Both, In, By, ◌▸◌, ◌∣◌}
+use Rattle.sql_grammar.specs.Grammar as g
+use Rattle.sql_grammar.specs.Meaning.{factor_of, joins_of, source_of}
+use Rattle.sql_grammar.proofs.Loops.{pushed}
+use Rattle.sql_grammar.proofs.Leads.{at_line, behind, hands_on, fails_first, read_ok, append_err}
 use Rattle.sql_text.proofs.sources.source.Goals as goal
 
 pub returns-in_err-found : goal.returns-in_err-found

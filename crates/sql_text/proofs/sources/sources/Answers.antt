@@ -1,8 +1,8 @@
 use Rattle.std.proofs.Common.{length, arith, refl, ap}
 use Rattle.std.proofs.lemmas.Result.{err_from_is_err_and}
-use Rattle.sql_text.specs.Meaning.{source_list_of, source_of, more_sources_of}
-use Rattle.sql_text.proofs.Leads.{shorter}
-use Rattle.sql_text.proofs.Loops.{awaits_first, awaits_next, goes_end, goes_is}
+use Rattle.sql_grammar.specs.Meaning.{source_list_of, source_of, more_sources_of}
+use Rattle.sql_grammar.proofs.Leads.{shorter}
+use Rattle.sql_grammar.proofs.Loops.{awaits_first, awaits_next, goes_end, goes_is}
 use Rattle.sql_text.proofs.sources.sources.Goals as goal
 
 pub loop-all-init : goal.loop-all-init

@@ -1,6 +1,6 @@
 use Rattle.std.proofs.Common.{length}
-use Rattle.sql_text.specs.Meaning.{source_list_of, source_of, more_sources_of}
-use Rattle.sql_text.proofs.Loops.{Awaits}
+use Rattle.sql_grammar.specs.Meaning.{source_list_of, source_of, more_sources_of}
+use Rattle.sql_grammar.proofs.Loops.{Awaits}
 use Rattle.sql_text.proofs.sources.sources.Given as goal
 
 abbrev pub invariant-loop-all : goal.invariant-loop-all

@@ -1,9 +1,9 @@
 use Rattle.std.proofs.Common.{refl, sym, ap, ◌∙◌, Option}
 use Rattle.std.proofs.lemmas.Result.{err_from_is_err_and}
-use Rattle.sql_text.specs.Grammar as g
-use Rattle.sql_text.specs.declared.tree.Alias.{Alias}
-use Rattle.sql_text.specs.Meaning.{unjoined, alias_of, factor_of}
-use Rattle.sql_text.proofs.Leads.{at_line, behind, beside, fails_first}
+use Rattle.sql_grammar.specs.Grammar as g
+use Rattle.sql_grammar.specs.declared.tree.Alias.{Alias}
+use Rattle.sql_grammar.specs.Meaning.{unjoined, alias_of, factor_of}
+use Rattle.sql_grammar.proofs.Leads.{at_line, behind, beside, fails_first}
 use Rattle.sql_text.proofs.sources.table_of.Goals as goal
 
 pub returns-in_err-table : goal.returns-in_err-table

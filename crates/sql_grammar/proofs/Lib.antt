@@ -1,0 +1,13 @@
+pub mod Sets
+mod Parts
+mod First
+mod Compose
+pub mod Choices
+pub mod Same
+pub mod Leads
+pub mod Loops
+mod Words
+mod KindFacts
+mod Cuts
+pub mod Whole
+pub mod Formed

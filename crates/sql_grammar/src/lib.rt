@@ -1,0 +1,22 @@
+//! The grammar of scripts: what a sentence is, its syntax tree, and the readers of its least parts.
+//!
+//! What speaks of scripts stands on the trees and definitions here, and the parser on the readers. Each reader takes the tokens
+//! that are left, and gives what it read and the tokens behind; or that it isn't there, or the one place where it goes on no
+//! further.
+#![tactic(auto)]
+
+mod errors;
+mod kinds;
+mod leaves;
+mod reading;
+mod tree;
+
+pub use errors::ParseError;
+pub use kinds::Kind;
+pub use leaves::{begins_name, column_type, comparison, literal, name, text};
+pub use reading::{
+    after, appended, begins_with, expect, first_is, followed, paired, passes, place_of,
+};
+pub use tree::{
+    Alias, ColumnItem, ColumnName, Cond, CreateTable, Expr, Item, Items, Op, Script, Select, Source,
+};
