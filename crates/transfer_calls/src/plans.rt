@@ -65,12 +65,7 @@ impl Draft {
 
     fn add_codes(&mut self, alloc: Global, rest: &str) -> Result<(), CaseError> {
         let (count, codes) = rest.split_once(' ').unwrap_or((rest, ""));
-        let count = number_of(Some(count))?;
-        let codes = numbers_of(alloc, codes)?;
-        if codes.len() > 1000 || !are_below(&codes, count) {
-            return Err(CaseError::Range);
-        }
-        self.add_places(AnyPlace::Exact(Exact::new(codes, count)))
+        self.add_places(places_by(alloc, number_of(Some(count))?, codes)?)
     }
 
     fn add_pipe(&mut self, alloc: Global, items: u32) -> Result<(), CaseError> {
@@ -94,6 +89,15 @@ impl Draft {
             pipe.writes = ports;
         }
     }
+}
+
+/// The places of items by these codes, which are below the count.
+pub fn places_by(alloc: Global, count: u32, codes: &str) -> Result<AnyPlace, CaseError> {
+    let codes = numbers_of(alloc, codes)?;
+    if codes.len() > 1000 || !are_below(&codes, count) {
+        return Err(CaseError::Range);
+    }
+    Ok(AnyPlace::Exact(Exact::new(codes, count)))
 }
 
 fn are_below(codes: &[u32], count: u32) -> bool

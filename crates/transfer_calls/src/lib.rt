@@ -1,0 +1,29 @@
+//! Calls that cases ask of plans of pipes, of the steps that actors take of them, and of the plans of trees: of the crates of filters.
+//!
+//! `README.md` says which calls there are, and how a case is written.
+#![tactic(auto)]
+
+mod kept;
+mod parts;
+mod plans;
+mod steps;
+mod trees;
+
+use case_text::{Case, CaseError, number_of};
+use std::alloc::Global;
+
+/// Puts what a case's call gives. It is an error of words that the call is none of these.
+pub fn put_given(alloc: Global, case: &Case, given: &mut String) -> Result<(), CaseError> {
+    let entries = case.entries.as_slice();
+    match case.word.as_str() {
+        "plan" => steps::put_plan(alloc, &plans::plan_of(alloc, entries)?, given),
+        "steps" => {
+            let plan = plans::plan_of(alloc, entries)?;
+            let actors = number_of(Some(case.head.as_str()))?;
+            steps::put_steps(alloc, &plan, actors, entries, given)
+        }
+        "tree" => kept::put_tree(alloc, trees::parts_of(alloc, case)?, given),
+        "kept" => kept::put_kept(alloc, trees::parts_of(alloc, case)?, given),
+        _ => Err(CaseError::Word),
+    }
+}
