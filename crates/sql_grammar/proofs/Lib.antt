@@ -8,6 +8,8 @@ pub mod Leads
 pub mod Loops
 mod Words
 mod KindFacts
+mod Placed
+mod Predicates
 mod Cuts
 pub mod Whole
 pub mod Formed

@@ -1,19 +1,24 @@
-//! The grammar of scripts: what a sentence is, its syntax tree, and the readers of its least parts.
+//! The grammar of scripts: what a sentence is, its syntax tree, and the readers of its lesser parts, up to a condition that
+//! joins and negates no others.
 //!
 //! What speaks of scripts stands on the trees and definitions here, and the parser on the readers. Each reader takes the tokens
 //! that are left, and gives what it read and the tokens behind; or that it isn't there, or the one place where it goes on no
 //! further.
 #![tactic(auto)]
 
+mod comparing;
 mod errors;
 mod kinds;
 mod leaves;
+mod operands;
 mod reading;
 mod tree;
 
+pub use comparing::test;
 pub use errors::ParseError;
 pub use kinds::Kind;
-pub use leaves::{begins_name, column_type, comparison, literal, name, text};
+pub use leaves::{begins_name, column_type, name};
+pub use operands::colref;
 pub use reading::{
     after, appended, begins_with, expect, first_is, followed, paired, passes, place_of,
 };

@@ -1,4 +1,2 @@
-mod Placed
-mod Predicates
 mod Members
 mod Alone

@@ -2,7 +2,6 @@
 #![tactic(auto)]
 
 mod conditions;
-mod operands;
 mod parsing;
 mod sources;
 

@@ -6,11 +6,10 @@ ghost use Rattle.sql_grammar.specs.Meaning.{alias_of, title_of as title_said, it
 ghost use Rattle.sql_grammar.specs.Reading.{Gives, Heads};
 
 use crate::conditions::cond;
-use crate::operands::colref;
 use rpt_base::{Listed, Name};
 use sql_grammar::{
     Alias, Cond, Item, Items, Kind, ParseError, Select, Source, after, appended, begins_name,
-    begins_with, expect, followed, name, paired, passes,
+    begins_with, colref, expect, followed, name, paired, passes,
 };
 use sql_lex::Token;
 use std::alloc::Global;

@@ -3,7 +3,7 @@ use Rattle.std.proofs.lemmas.Result.{err_from_is_err_and}
 use Rattle.sql_grammar.specs.declared.tree.Expr.{Expr}
 use Rattle.sql_grammar.specs.Meaning.{range, range_of, operand_of}
 use Rattle.sql_grammar.proofs.Leads.{itself, behind, beside, fails_first}
-use Rattle.sql_text.proofs.conditions.range.Goals as goal
+use Rattle.sql_grammar.proofs.comparing.range.Goals as goal
 
 pub returns-in_err-low : goal.returns-in_err-low
 returns-in_err-low c n =

@@ -3,13 +3,16 @@ ghost use Rattle.std.specs.Prelude.{◌≡◌, ℕ};
 ghost use Rattle.sql_grammar.specs.Meaning.{colref_of, operand_of};
 ghost use Rattle.sql_grammar.specs.Reading.{Gives};
 
-use sql_grammar::{
-    ColumnName, Expr, Kind, ParseError, after, begins_name, literal, name, paired, place_of,
-};
+use crate::errors::ParseError;
+use crate::kinds::Kind;
+use crate::leaves::{begins_name, literal, name};
+use crate::reading::{after, paired, place_of};
+use crate::tree::{ColumnName, Expr};
 use sql_lex::Token;
 use std::alloc::Global;
 
-/// A column: `name [ "." name ]`.
+/// A column, `name [ "." name ]`, which must stand first, and what follows it. Else `Syntax` is at the first token with which
+/// none goes on or, where there is none, at `end`.
 pub fn colref(
     alloc: Global,
     tokens: &[Token],

@@ -3,7 +3,7 @@ use Rattle.std.proofs.lemmas.Result.{err_from_is_err_and}
 use Rattle.sql_grammar.specs.Meaning.{literal_list_of, literal_of, literals_of}
 use Rattle.sql_grammar.proofs.Leads.{shorter, read_ok, append_err}
 use Rattle.sql_grammar.proofs.Loops.{awaits_first, awaits_next, goes_end, goes_append}
-use Rattle.sql_text.proofs.conditions.literals.Goals as goal
+use Rattle.sql_grammar.proofs.comparing.literals.Goals as goal
 
 pub loop-all-init : goal.loop-all-init
 loop-all-init c n = rw c.new-found.ensures.items (awaits_first literal_list_of (λ d. literal_of d ∷ []) literals_of n c.args.tokens.now refl (λ d m. refl))

@@ -1,7 +1,7 @@
 use Rattle.std.proofs.Common.{ℕ, length, [], ◌∷◌}
 use Rattle.sql_grammar.specs.Meaning.{literal_list_of, literal_of, literals_of}
 use Rattle.sql_grammar.proofs.Loops.{Awaits}
-use Rattle.sql_text.proofs.conditions.literals.Given as goal
+use Rattle.sql_grammar.proofs.comparing.literals.Given as goal
 
 abbrev pub invariant-loop-all : goal.invariant-loop-all
 invariant-loop-all l = (n : ℕ) → Awaits literal_list_of (λ d. literal_of d ∷ []) literals_of n l.tokens l.found.items l.rest

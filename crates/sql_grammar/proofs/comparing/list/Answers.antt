@@ -6,7 +6,7 @@ use Rattle.sql_grammar.specs.Grammar as g
 use Rattle.sql_grammar.specs.Meaning.{list, list_of, literal_list_of}
 use Rattle.sql_grammar.proofs.Same.{regrouped, ungroup}
 use Rattle.sql_grammar.proofs.Leads.{itself, behind, at_same, hands_on, fails_first}
-use Rattle.sql_text.proofs.conditions.list.Goals as goal
+use Rattle.sql_grammar.proofs.comparing.list.Goals as goal
 
 abbrev literal_list : Part
 literal_list = line g.literal ▸ many (word k.Comma ▸ line g.literal)

@@ -5,9 +5,9 @@ use Rattle.sql_grammar.specs.Grammar.{comparisons}
 use Rattle.sql_grammar.specs.declared.tree.Expr.{Expr}
 use Rattle.sql_grammar.specs.declared.tree.Op.{Op}
 use Rattle.sql_grammar.specs.Meaning.{tests, test_of, predicate_of, operand_of, op_of, compare}
-use Rattle.sql_text.proofs.Predicates.{compared, negated, in_turn, as_written, compare_is, predicate_is}
+use Rattle.sql_grammar.proofs.Predicates.{compared, negated, in_turn, as_written, compare_is, predicate_is}
 use Rattle.sql_grammar.proofs.Leads.{itself, behind, at_same, at_left, at_right, hands_on, fails_first, other_kinds, none_of}
-use Rattle.sql_text.proofs.conditions.test.Goals as goal
+use Rattle.sql_grammar.proofs.comparing.test.Goals as goal
 
 pub returns-in_err-left : goal.returns-in_err-left
 returns-in_err-left c n =

@@ -6,7 +6,7 @@ use Rattle.sql_grammar.specs.declared.tree.Expr.{Expr}
 use Rattle.sql_grammar.specs.declared.tree.Cond.TheVariants as condition
 use Rattle.sql_grammar.specs.Meaning.{operand_of, compare}
 use Rattle.sql_grammar.proofs.Leads.{itself, done, read_ok, read_err}
-use Rattle.sql_text.proofs.conditions.compared.Goals as goal
+use Rattle.sql_grammar.proofs.comparing.compared.Goals as goal
 
 pub returns-in_err-left : goal.returns-in_err-left
 returns-in_err-left c n =

@@ -6,7 +6,7 @@ use Rattle.sql_grammar.specs.declared.tree.Expr.{Expr}
 use Rattle.sql_grammar.specs.declared.tree.Cond.TheVariants as condition
 use Rattle.sql_grammar.specs.Meaning.{text_of, like}
 use Rattle.sql_grammar.proofs.Leads.{itself, done, read_ok, read_err}
-use Rattle.sql_text.proofs.conditions.like.Goals as goal
+use Rattle.sql_grammar.proofs.comparing.like.Goals as goal
 
 pub returns-in_err-operand : goal.returns-in_err-operand
 returns-in_err-operand c n =

@@ -6,7 +6,7 @@ use Rattle.sql_grammar.specs.Kinds.{code}
 use Rattle.sql_grammar.specs.Grammar.{Part, word, ◌▸◌, ◌∣◌}
 use Rattle.sql_grammar.specs.Meaning.{range, list, range_of, list_of, text_of, predicates, predicate_of, between, in_list, like}
 use Rattle.sql_grammar.proofs.Leads.{itself, behind, at_left, at_right, hands_on, fails_first, reads_kind, other_kind, none_of}
-use Rattle.sql_text.proofs.conditions.predicate.Goals as goal
+use Rattle.sql_grammar.proofs.comparing.predicate.Goals as goal
 
 abbrev ranged : Part
 ranged = word k.Between ▸ range

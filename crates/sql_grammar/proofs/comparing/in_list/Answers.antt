@@ -5,7 +5,7 @@ use Rattle.sql_grammar.specs.declared.tree.Expr.{Expr}
 use Rattle.sql_grammar.specs.declared.tree.Cond.TheVariants as condition
 use Rattle.sql_grammar.specs.Meaning.{list_of, in_list, list}
 use Rattle.sql_grammar.proofs.Leads.{itself, done, read_ok, read_err}
-use Rattle.sql_text.proofs.conditions.in_list.Goals as goal
+use Rattle.sql_grammar.proofs.comparing.in_list.Goals as goal
 
 pub returns-in_err-operand : goal.returns-in_err-operand
 returns-in_err-operand c n =

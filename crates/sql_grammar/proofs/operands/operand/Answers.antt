@@ -7,9 +7,9 @@ use Rattle.sql_grammar.specs.declared.tree.ColumnName.{ColumnName}
 use Rattle.sql_grammar.specs.declared.tree.Expr.TheVariants as e
 use Rattle.rpt_base.specs.declared.values.Value.{Value}
 use Rattle.sql_grammar.specs.Meaning.{literal_of}
-use Rattle.sql_text.proofs.Placed.{literal_placed}
+use Rattle.sql_grammar.proofs.Placed.{literal_placed}
 use Rattle.sql_grammar.proofs.Leads.{at_line, at_left, at_right, done, fails, other_kinds, none_of}
-use Rattle.sql_text.proofs.operands.operand.Goals as goal
+use Rattle.sql_grammar.proofs.operands.operand.Goals as goal
 
 pub returns-in_err-column : goal.returns-in_err-column
 returns-in_err-column c n =

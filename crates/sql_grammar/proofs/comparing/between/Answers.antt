@@ -4,7 +4,7 @@ use Rattle.sql_grammar.specs.declared.tree.Expr.{Expr}
 use Rattle.sql_grammar.specs.declared.tree.Cond.TheVariants as condition
 use Rattle.sql_grammar.specs.Meaning.{range_of, between, range}
 use Rattle.sql_grammar.proofs.Leads.{itself, done, read_ok, read_err}
-use Rattle.sql_text.proofs.conditions.between.Goals as goal
+use Rattle.sql_grammar.proofs.comparing.between.Goals as goal
 
 pub returns-in_err-operand : goal.returns-in_err-operand
 returns-in_err-operand c n =

@@ -8,7 +8,7 @@ use Rattle.sql_grammar.specs.declared.tree.Alias.{Alias}
 use Rattle.sql_grammar.specs.Meaning.{named, alone, within}
 use Rattle.sql_grammar.proofs.Choices.{reads_none}
 use Rattle.sql_grammar.proofs.Leads.{at_line, at_some, behind, done, fails, fails_first, reads_kind, begun, none_of, read_ok, read_err}
-use Rattle.sql_text.proofs.operands.colref.Goals as goal
+use Rattle.sql_grammar.proofs.operands.colref.Goals as goal
 
 abbrev dotted : Part
 dotted = word k.Dot ▸ name
