@@ -2,7 +2,7 @@ mod ClearFacts
 mod RangeFacts
 mod TypedFacts
 mod TablesFacts
-mod BoundFacts
+pub mod BoundFacts
 mod PredFacts
 mod GatherFacts
 mod EqualityFacts

@@ -21,6 +21,7 @@ begins_with_dash (c ∷ word) = c == 45
 abbrev pub mode_of : List ℕ → Option Mode
 mode_of word =
     if bytes_eq word (codes "run") then Some mode.Run
+    else if bytes_eq word (codes "explain") then Some mode.Explain
     else if bytes_eq word (codes "check") then Some mode.Check
     else None
 

@@ -11,6 +11,8 @@ use std::alloc::Global;
 pub enum Mode {
     /// The answer's text.
     Run,
+    /// The report of how the answer is found, with the numbers of rows.
+    Explain,
     /// The report of the tree, the order and its safe prefixes, for which no table is read.
     Check,
 }
@@ -77,6 +79,7 @@ fn mode_of(word: &str) -> Option<Mode>
 {
     match word {
         "run" => Some(Mode::Run),
+        "explain" => Some(Mode::Explain),
         "check" => Some(Mode::Check),
         _ => None,
     }

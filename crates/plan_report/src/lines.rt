@@ -1,10 +1,13 @@
 // The lines of a query's relations and variables, and of its order.
-ghost use Rattle.std.specs.Prelude.{◌≡◌, ◌<◌, ◌++◌, All, OnOk, length};
+ghost use Rattle.std.specs.Prelude.{◌≡◌, ◌<◌, ◌++◌, All, IfSome, OnOk, length};
+ghost use Rattle.std.specs.Option.{option_map};
 ghost use Rattle.bound_query.specs.Query.{Names, widths_of};
 ghost use Rattle.column_classes.specs.Variables.{AreQueryVariables};
 ghost use Rattle.plan_report.specs.Report.{count_line, next_text, order_line, relation_line, relation_lines, variable_line, variable_lines};
+ghost use Rattle.plan_report.specs.Run.{IsRunOf, run_counts};
 
 use crate::pieces::{put, put_alias, put_column, put_number, table_at};
+use crate::runs::{RunPart, put_rows};
 use bound_query::{Bound, ColumnRef};
 use rpt_base::Memory;
 
@@ -18,23 +21,35 @@ pub(crate) fn put_count(out: &mut Vec<u8>, bound: &Bound) -> Result<(), Memory>
 }
 
 /// A line for each relation.
-pub(crate) fn put_relations(out: &mut Vec<u8>, bound: &Bound) -> Result<(), Memory>
-    ensures { OnOk result (out.new.items ≡ out.old.items ++ relation_lines bound.now.query) }
+pub(crate) fn put_relations(
+    out: &mut Vec<u8>,
+    bound: &Bound,
+    run: &Option<RunPart<'_>>,
+) -> Result<(), Memory>
+    requires { IfSome run.now (IsRunOf (length bound.now.query.table_of)) }
+    ensures { OnOk result (out.new.items ≡ out.old.items ++ relation_lines bound.now.query (option_map run_counts run.now)) }
 {
     for relation in 0..bound.relations() {
-        put_relation(out, bound, relation)?;
+        put_relation(out, bound, run, relation)?;
     }
     Ok(())
 }
 
-fn put_relation(out: &mut Vec<u8>, bound: &Bound, relation: u32) -> Result<(), Memory>
-    requires { relation < length bound.now.query.table_of }
-    ensures { OnOk result (out.new.items ≡ out.old.items ++ relation_line bound.now.query relation) }
+fn put_relation(
+    out: &mut Vec<u8>,
+    bound: &Bound,
+    run: &Option<RunPart<'_>>,
+    relation: u32,
+) -> Result<(), Memory>
+    requires run { IfSome run.now (IsRunOf (length bound.now.query.table_of)) }
+    requires relation { relation < length bound.now.query.table_of }
+    ensures { OnOk result (out.new.items ≡ out.old.items ++ relation_line bound.now.query (option_map run_counts run.now) relation) }
 {
     put(out, b"relation ")?;
     put_alias(out, bound, relation)?;
     put(out, b" ")?;
     put(out, table_at(bound, relation).name.bytes())?;
+    put_rows(out, run, bound.relations(), relation)?;
     put(out, b"\n")
 }
 

@@ -27,6 +27,14 @@ pub(crate) fn put_number(out: &mut Vec<u8>, number: u32) -> Result<(), Memory>
     put(out, buffer.format(number).as_bytes())
 }
 
+/// The same of a longer number.
+pub(crate) fn put_long(out: &mut Vec<u8>, number: u64) -> Result<(), Memory>
+    ensures { OnOk result (out.new.items ≡ out.old.items ++ decimal number) }
+{
+    let mut buffer = Buffer::new();
+    put(out, buffer.format(number).as_bytes())
+}
+
 /// The name that a relation goes by.
 pub(crate) fn put_alias(out: &mut Vec<u8>, bound: &Bound, relation: u32) -> Result<(), Memory>
     requires { relation < length bound.now.query.table_of }

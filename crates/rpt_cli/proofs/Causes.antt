@@ -28,7 +28,7 @@ use Rattle.rpt_cli.specs.Orders.{order_of}
 use Rattle.command_words.specs.declared.words.Mode.{Mode}
 use Rattle.command_words.specs.declared.words.Mode.TheVariants as mode
 use Rattle.rpt_cli.proofs.PreparedFacts.{Refused, ByCycle, ByNames, ByPrefix, why-refused}
-use Rattle.rpt_cli.specs.Command.{answer_text, bytes_course, command_course, course, course_of, filter_of, join_course, mode_course, most_table_bytes, query_course, query_or, tables_course, unless_overflow}
+use Rattle.rpt_cli.specs.Command.{answer_text, bytes_course, command_course, course, course_of, explain_text, filter_of, join_course, mode_course, most_table_bytes, query_course, query_or, tables_course, unless_overflow}
 use Rattle.rpt_cli.specs.Tables.{table_file, table_or}
 use Rattle.rpt_cli.specs.Delivery.{Delivers}
 use Rattle.refusal_lines.specs.Message.{status_of}
@@ -86,6 +86,9 @@ module _ (given : Option (List ℕ)) where
   mode-ends mode.Run filter folder bound order =
       tables-ends folder (λ tables. join_course filter bound order tables (λ plan. Ends (Ok (answer_text bound tables)))) most_table_bytes [] bound.query.tables
       (λ tables. join-ends filter bound order tables (λ plan. Ends (Ok (answer_text bound tables))) (λ plan. tt))
+  mode-ends mode.Explain filter folder bound order =
+      tables-ends folder (λ tables. join_course filter bound order tables (λ plan. Ends (Ok (explain_text filter bound tables plan)))) most_table_bytes [] bound.query.tables
+      (λ tables. join-ends filter bound order tables (λ plan. Ends (Ok (explain_text filter bound tables plan))) (λ plan. tt))
   mode-ends mode.Check filter folder bound order = (λ e h. absurd h, λ plan. tt)
 
   -- what is refused as no script is refused for what it is

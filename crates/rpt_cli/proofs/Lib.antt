@@ -8,3 +8,6 @@ mod PlannedFacts
 mod TableFacts
 mod JoinFacts
 mod RangeFacts
+mod ExplainedFacts
+mod CountsFacts
+mod ReportFacts

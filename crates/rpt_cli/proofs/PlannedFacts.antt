@@ -1,6 +1,6 @@
 -- That a query is planned in one way, and what its report is.
 use Rattle.std.proofs.Common.{◌≡◌, inr, ap, subst, ℕ, List}
-use Rattle.std.specs.Prelude.{Option, Result, Ok, Err}
+use Rattle.std.specs.Prelude.{None, Option, Result, Ok, Err}
 use Rattle.bound_query.specs.Query.{BoundQuery}
 use Rattle.plan_report.specs.Report.{report_of}
 use Rattle.rpt_engine.specs.Planned.{IsPlan, no_sizes}
@@ -25,9 +25,9 @@ plan-unsized graph sets sizes order plan g s is =
 
 -- the report of a plan ends the course
 pub report-Gives : (bound : BoundQuery) (order : Option (List ℕ)) (plan : Plan) (text : List ℕ) → IsPlan bound.known.sets (no_sizes bound.known.sets) order plan
-    → text ≡ report_of bound.query bound.known plan.tree plan.order plan.lists → GivesUnasked (check_course bound order) (Ok text)
+    → text ≡ report_of bound.query bound.known plan.tree plan.order plan.lists None → GivesUnasked (check_course bound order) (Ok text)
 report-Gives bound order plan text planned is = λ told before now.
     finds-Gives told before now (Planning bound.known.sets (no_sizes bound.known.sets) order)
-    (λ (found : Plan). Ends (Ok (report_of bound.query bound.known found.tree found.order found.lists))) plan (Ok text)
+    (λ (found : Plan). Ends (Ok (report_of bound.query bound.known found.tree found.order found.lists None))) plan (Ok text)
     (planned, λ other other_is. planned-only bound.known.sets (no_sizes bound.known.sets) order (Ok plan) other planned other_is)
     (inr (ap Ok is))

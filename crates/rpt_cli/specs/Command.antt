@@ -1,5 +1,6 @@
 -- The course of a command: what it asks for and what it answers, in the order of refusals.
-use Rattle.std.specs.Prelude.{ℕ, ◌-◌, ◌∷◌, ◌++◌, sum, List, [], Result, Ok, Err, Option, None, Some, nat_lt, length, if◌then◌else◌}
+use Rattle.std.specs.Prelude.{ℕ, ◌-◌, ◌∷◌, ◌++◌, sum, List, [], Result, Ok, Err, Option, None, Some, nat_lt, length, map, if◌then◌else◌}
+use Rattle.std.specs.List.{range_with_len}
 use Rattle.rpt_base.specs.declared.filters.FilterKind.{FilterKind}
 use Rattle.rpt_base.specs.declared.filters.FilterKind.TheVariants as filter_kind
 use Rattle.rpt_base.specs.declared.limits.TheConstants.{MAX_SCRIPT_BYTES, MAX_TABLE_BYTES, MAX_ROWS}
@@ -12,8 +13,9 @@ use Rattle.bound_query.specs.Query.{BoundQuery, Query}
 use Rattle.bound_query.specs.Answer.{answer_of, counts_of}
 use Rattle.binder.specs.Binding.{query_of}
 use Rattle.row_output.specs.OutputText.{output_text}
-use Rattle.plan_report.specs.Report.{report_of}
-use Rattle.rpt_engine.specs.Joins.{overflow_of, sizes_of}
+use Rattle.join_laws.specs.Selected.{selected_counts}
+use Rattle.plan_report.specs.Report.{RunCounts, report_of}
+use Rattle.rpt_engine.specs.Joins.{joined_rows, overflow_of, plan_joins, sizes_of}
 use Rattle.rpt_engine.specs.Planned.{no_sizes}
 use Rattle.rpt_engine.specs.declared.planning.Plan.{Plan}
 use Rattle.command_words.specs.declared.words.Command.{Command}
@@ -77,24 +79,50 @@ join_course filter bound order tables next =
     if nat_lt MAX_ROWS (sum (counts_of bound.query tables)) then Ends (Err TooManyRows)
     else Finds (Planning bound.known.sets (sizes_of bound tables) order) (λ plan. unless_overflow (overflow_of filter bound tables plan) (next plan))
 
+-- The tables of a query are loaded and its relations are joined over them, and the course goes on with the tables and the plan.
+abbrev pub answered_course : FilterKind → List ℕ → BoundQuery → Option (List ℕ) → ((List Rows × Plan) → Course) → Course
+answered_course filter folder bound order next =
+    load_course folder bound.query.tables (λ tables. join_course filter bound order tables (λ plan. next (tables, plan)))
+
 -- the text of the answer, however it was found
 abbrev pub answer_text : BoundQuery → List Rows → List ℕ
 answer_text bound tables = output_text bound.query tables (answer_of bound.query tables)
 
 -- mode run: the query is answered over its tables
 abbrev pub run_course : FilterKind → List ℕ → BoundQuery → Option (List ℕ) → Course
-run_course filter folder bound order =
-    load_course folder bound.query.tables (λ tables. join_course filter bound order tables (λ plan. Ends (Ok (answer_text bound tables))))
+run_course filter folder bound order = answered_course filter folder bound order (λ found. Ends (Ok (answer_text bound found.0)))
+
+-- How many rows there are of each relation, how many are selected and how many are joined, and how many tuples each prefix of the
+-- plan's order has.
+abbrev pub counts_in : FilterKind → BoundQuery → List Rows → Plan → RunCounts
+counts_in filter bound tables plan = record {
+  filter = filter;
+  rows = counts_of bound.query tables;
+  selected = selected_counts bound tables;
+  reduced = map (λ r. length (joined_rows filter bound tables plan r)) (range_with_len 0 (length bound.query.table_of));
+  prefixes = map length (plan_joins filter bound tables plan);
+}
+
+-- how the answer was found
+abbrev pub explain_text : FilterKind → BoundQuery → List Rows → Plan → List ℕ
+explain_text filter bound tables plan =
+    report_of bound.query bound.known plan.tree plan.order plan.lists (Some (counts_in filter bound tables plan))
+
+-- mode explain: it is answered in the same way, and how this was done is reported
+abbrev pub explain_course : FilterKind → List ℕ → BoundQuery → Option (List ℕ) → Course
+explain_course filter folder bound order =
+    answered_course filter folder bound order (λ found. Ends (Ok (explain_text filter bound found.0 found.1)))
 
 -- mode check: how the query is answered is reported, with all sizes 0, since no table is read
 abbrev pub check_course : BoundQuery → Option (List ℕ) → Course
 check_course bound order =
     Finds (Planning bound.known.sets (no_sizes bound.known.sets) order)
-    (λ plan. Ends (Ok (report_of bound.query bound.known plan.tree plan.order plan.lists)))
+    (λ plan. Ends (Ok (report_of bound.query bound.known plan.tree plan.order plan.lists None)))
 
 -- a query that can be answered, in a mode
 abbrev pub mode_course : Mode → FilterKind → List ℕ → BoundQuery → Option (List ℕ) → Course
 mode_course mode.Run filter folder bound order = run_course filter folder bound order
+mode_course mode.Explain filter folder bound order = explain_course filter folder bound order
 mode_course mode.Check filter folder bound order = check_course bound order
 
 -- the filters that a command asks for: exact ones

@@ -7,3 +7,4 @@ pub mod Command
 pub mod Delivery
 pub mod Outcome
 pub mod Steps
+pub mod Explained

@@ -1,6 +1,18 @@
 -- Words of this crate's own contracts: what the parts of the top call give.
-use Rattle.std.specs.Prelude.{◌≡◌, ◌⊎◌, ℕ, List, Result, Ok, Err, Option, Some, None}
+use Rattle.std.specs.Prelude.{◌≡◌, ◌⊎◌, ℕ, List, Result, Ok, Err, Option, Some, None, length}
 use Rattle.sql_grammar.specs.declared.tree.Script.{Script}
+use Rattle.column_table.specs.Table.{Rows}
+use Rattle.bound_query.specs.Query.{BoundQuery}
+use Rattle.join_laws.specs.Order.{HasEachOnce}
+use Rattle.join_laws.specs.Selected.{instance_of, selected_counts}
+use Rattle.order_join.specs.Joined.{IsJoinRun}
+use Rattle.rpt_engine.specs.Answered.{plan_of}
+use Rattle.rpt_engine.specs.Joins.{joined_rows}
+use Rattle.rpt_engine.specs.Planned.{IsPlan}
+use Rattle.rpt_engine.specs.Transferred.{CountsJoined}
+use Rattle.rpt_engine.specs.declared.answering.Outcome.{Outcome}
+use Rattle.rpt_engine.specs.declared.options.Options.{Options}
+use Rattle.rpt_engine.specs.declared.planning.Plan.{Plan}
 use Rattle.rpt_engine.specs.declared.errors.PrepareError.{PrepareError}
 use Rattle.rpt_engine.specs.declared.errors.PrepareError.TheVariants as prepare_error
 use Rattle.refusal_lines.specs.declared.refusal.Refusal.{Refusal}
@@ -50,3 +62,15 @@ why_unprepared prepare_error.Memory = Memory
 abbrev pub SaysScript : List ℕ → Result Script Refusal → Type 0
 SaysScript bytes (Ok script) = IsScript bytes (Ok script)
 SaysScript bytes (Err e) = (e ≡ Memory) ⊎ IsScript bytes (Err e)
+
+-- this is a plan of the query, with the order that is given if any is, for some sizes of its relations
+abbrev pub IsPlanFor : BoundQuery → Options → Plan → Type 0
+IsPlanFor bound options plan = (sizes : List ℕ) × IsPlan bound.known.sets sizes options.order plan
+
+-- what the outcome of a query over its tables tells: the plan, and the numbers of rows that were selected, kept and joined
+pub record TellsRun (bound : BoundQuery) (tables : List Rows) (options : Options) (outcome : Outcome) : Type 0 where
+  pub plan : IsPlan bound.known.sets (selected_counts bound tables) options.order (plan_of outcome)
+  pub order : HasEachOnce (length bound.query.table_of) outcome.order
+  pub selected : outcome.selected ≡ selected_counts bound tables
+  pub counts : CountsJoined bound tables options.filter (plan_of outcome) outcome.transfer
+  pub joined : IsJoinRun (instance_of bound tables) (joined_rows options.filter bound tables (plan_of outcome)) outcome.order outcome.joined

@@ -5,7 +5,7 @@ ghost use Rattle.rpt_cli.specs.Command.{check_course};
 ghost use Rattle.rpt_cli.specs.Steps.{GivesUnasked};
 
 use crate::ready::Ready;
-use plan_report::{ReportInput, report};
+use crate::reports::report_on;
 use refusal_lines::Refusal;
 use rpt_base::limits::MAX_RELATIONS;
 use rpt_engine::plan_for;
@@ -28,14 +28,9 @@ pub(crate) fn check(alloc: Global, ready: &Ready) -> Result<Vec<u8>, Refusal>
     ) else {
         return Err(Refusal::Memory);
     };
-    let input = ReportInput {
-        bound: &ready.bound,
-        graph: &ready.prepared.graph,
-        tree: &plan.tree,
-        order: plan.order.as_slice(),
-        lists: plan.lists.as_slice(),
-    };
-    match report(alloc, &input) {
+    let order = plan.order.as_slice();
+    let lists = plan.lists.as_slice();
+    match report_on(alloc, ready, &plan.tree, order, lists, None) {
         Ok(text) => Ok(text),
         Err(_) => Err(Refusal::Memory),
     }

@@ -1,10 +1,13 @@
 // The top call.
-ghost use Rattle.std.specs.Prelude.{◌≡◌, ◌≢◌, ◌⊎◌, ◌<◌, ◌+◌, ◌-◌, ◌^◌, List, ℕ, min, IfSome, IsOk, IsOkAnd, IsSome};
+ghost use Rattle.std.specs.Prelude.{◌≡◌, ◌≢◌, ◌⊎◌, ◌<◌, ◌+◌, ◌-◌, ◌^◌, List, ℕ, Some, min, IfSome, IsOk, IsOkAnd, IsSome};
 ghost use Rattle.std.specs.Io.KnownBytes.{Appends};
 ghost use Rattle.rpt_outside.specs.Causes.{Rose};
 ghost use Rattle.command_words.specs.Words.{command_of, words_of};
+ghost use Rattle.command_words.specs.declared.words.Command.{Command};
+ghost use Rattle.command_words.specs.declared.words.Mode.TheVariants as mode;
 ghost use Rattle.rpt_cli.specs.Course.{Answer, IsOutcome, NoneRose};
 ghost use Rattle.rpt_cli.specs.Command.{course};
+ghost use Rattle.rpt_cli.specs.Explained.{IsExplained};
 ghost use Rattle.rpt_cli.specs.Outcome.{Answers};
 
 use crate::deliver::deliver;
@@ -15,8 +18,8 @@ use std::thread::Threads;
 
 /// Answers the words of a command line, without the program's name, and gives the status.
 ///
-/// The words `run SCRIPT DIR` put the answer of the script over the tables' files in the folder to `out`, and `check SCRIPT DIR` the
-/// report of how it is answered; the status is 0 then. Otherwise one line is put to `messages`, and the status says why: 1 want of
+/// The words `run SCRIPT DIR` put the answer of the script over the tables' files in the folder to `out`; `explain SCRIPT DIR` the report
+/// of how it was answered, with the numbers of rows; and `check SCRIPT DIR` the report of how it would be. The status is 0 then. Otherwise one line is put to `messages`, and the status says why: 1 want of
 /// memory, 2 no command or an order that isn't one of the relations, 3 a file can't be read, 4 the output can't be written, 5 no
 /// script, 6 the script doesn't bind, 7 a bad table, 8 a cyclic query, 9 an unsafe order, 10 a file is too large, or the tables
 /// or a join have too many rows. Nothing is put to `out` then, but on status 4 a prefix of the text.
@@ -37,6 +40,10 @@ pub fn run_command<R: Threads + Sync, F: Files, S: Sink, M: Sink, G: Gate + Sync
     // Where the files tell what the command asks for, the output is the text of that.
     ensures text { result ≡ 0 → (answer : Answer) → IsOutcome (F.contents files.old) (course (words_of words.now)) answer
         → IsOkAnd answer (λ text. Appends (S.taken out.old) (S.taken out.new) text) }
+
+    // What explain prints: each prefix count of an accepted order is that prefix's number of tuples and at most the answer's.
+    ensures counts { result ≡ 0 → (command : Command) → command_of (words_of words.now) ≡ Some command → command.mode ≡ mode.Explain
+        → (text : List ℕ) × Appends (S.taken out.old) (S.taken out.new) text × IsExplained (F.contents files.old) command text }
 
     // No usage, read fault or write fault without its cause: on status 2 the words are no command, or they give an order.
     ensures usage { result ≡ 2 → IfSome (command_of (words_of words.now)) (λ command. IsSome command.order) }

@@ -8,12 +8,14 @@
 mod check;
 mod command;
 mod deliver;
+mod explain;
 mod fetch;
 mod joins;
 mod orders;
 mod query;
 mod ready;
 mod reply;
+mod reports;
 mod run;
 mod tables;
 

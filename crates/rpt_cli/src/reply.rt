@@ -7,6 +7,7 @@ ghost use Rattle.rpt_engine.specs.Prepared.{IsReady};
 ghost use Rattle.std.specs.Prelude.{◌≡◌};
 
 use crate::check::check;
+use crate::explain::explain;
 use crate::query::read_query;
 use crate::ready::{Ready, make_ready};
 use crate::run::run;
@@ -70,6 +71,7 @@ fn in_mode<R: Threads + Sync, F: Files, G: Gate + Sync>(
 {
     match command.mode {
         Mode::Run => run(rt, alloc, ready, &command.folder, files, gate),
+        Mode::Explain => explain(rt, alloc, ready, &command.folder, files, gate),
         Mode::Check => check(alloc, ready),
     }
 }

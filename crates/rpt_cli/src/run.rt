@@ -7,9 +7,8 @@ ghost use Rattle.rpt_engine.specs.Prepared.{IsReady};
 ghost use Rattle.rpt_cli.specs.Command.{answer_text, run_course};
 ghost use Rattle.rpt_cli.specs.Course.{Gives};
 
-use crate::joins::join_tables;
+use crate::joins::answer_query;
 use crate::ready::Ready;
-use crate::tables::load_tables;
 use binder::Bound;
 use column_table::Table;
 use refusal_lines::Refusal;
@@ -33,15 +32,12 @@ pub(crate) fn run<R: Threads + Sync, F: Files, G: Gate + Sync>(
     ensures { Gives (F.contents files.old) (F.faults files.old) (F.faults files.new)
         (run_course ready.now.options.filter folder.now ready.now.bound ready.now.options.order) (bytes_of result) }
 {
-    let tables = match load_tables(alloc, folder, &ready.bound, files) {
-        Ok(tables) => tables,
+    let found = match answer_query(rt, alloc, ready, folder, files, gate) {
+        Ok(found) => found,
         Err(refusal) => return Err(refusal),
     };
-    let outcome = match join_tables(rt, alloc, ready, tables.as_slice(), gate) {
-        Ok(outcome) => outcome,
-        Err(refusal) => return Err(refusal),
-    };
-    match answer_text(rt, alloc, &ready.bound, tables.as_slice(), &outcome) {
+    let tables = found.tables.as_slice();
+    match answer_text(rt, alloc, &ready.bound, tables, &found.outcome) {
         Ok(text) => Ok(text),
         Err(_) => Err(Refusal::Memory),
     }

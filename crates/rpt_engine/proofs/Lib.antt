@@ -4,6 +4,8 @@ mod PlanFacts
 pub mod OnePlan
 mod EachFacts
 mod JoinedFacts
+pub mod BoundedFacts
+mod AnswerRowFacts
 mod KeyFacts
 mod TransferFacts
 mod OverflowFacts

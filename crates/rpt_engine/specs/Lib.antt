@@ -4,3 +4,4 @@ pub mod Places
 pub mod Joins
 pub mod Transferred
 pub mod Answered
+pub mod Bounded

@@ -1,6 +1,7 @@
 use Rattle.rpt_outside.specs.Whole.{bytes_of}
 use Rattle.command_words.specs.Words.{words_of}
 use Rattle.rpt_cli.proofs.Causes.{Answers-tells}
+use Rattle.rpt_cli.proofs.CountsFacts.{Answers-counts}
 use Rattle.rpt_cli.proofs.Outcomes.{Answers-complete, Answers-text}
 use Rattle.rpt_cli.proofs.command.run_command.Goals as goal
 
@@ -21,3 +22,6 @@ returns-clause-read_fault g c = (Answers-tells (words_of c.args.words.now) (retu
 
 pub returns-clause-write_fault : goal.returns-clause-write_fault
 returns-clause-write_fault g c = (Answers-tells (words_of c.args.words.now) (returns-clause-answers g c)).write_fault
+
+pub returns-clause-counts : goal.returns-clause-counts
+returns-clause-counts g c = λ z command said is. Answers-counts (words_of c.args.words.now) command (returns-clause-answers g c) z said is
