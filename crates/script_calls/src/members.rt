@@ -8,18 +8,34 @@ use std::alloc::Global;
 
 /// Puts what AND and OR without members say of a row.
 pub fn put_no_members(alloc: Global, given: &mut String) -> Result<(), CaseError> {
-    let mut table = Table::new(alloc, &[ColumnType::Int])?;
-    table.push_row(&[Value::Int(0)])?;
-    let and = said(&Pred::And(Items::from_vec(Vec::new(alloc))), &table)?;
-    let or = said(&Pred::Or(Items::from_vec(Vec::new(alloc))), &table)?;
-    put(given, format_args!("and {and}\nor {or}\n"));
-    Ok(())
+    match one_row(alloc) {
+        Ok(table) => put_both(alloc, &table, given),
+        Err(error) => Err(error),
+    }
 }
 
-// What a condition says of the first row.
-fn said(pred: &Pred, table: &Table) -> Result<bool, CaseError> {
-    if !is_typed(pred, table) || table.rows() == 0 {
+fn one_row(alloc: Global) -> Result<Table, CaseError> {
+    let mut table = Table::new(alloc, &[ColumnType::Int])?;
+    match table.push_row(&[Value::Int(0)]) {
+        Ok(()) => Ok(table),
+        Err(_) => Err(CaseError::Memory),
+    }
+}
+
+fn put_both(alloc: Global, table: &Table, given: &mut String) -> Result<(), CaseError> {
+    put_said("and", Pred::And(none(alloc)), table, given)?;
+    put_said("or", Pred::Or(none(alloc)), table, given)
+}
+
+fn none(alloc: Global) -> Items<Pred> {
+    Items::from_vec(Vec::new(alloc))
+}
+
+// Puts what a condition says of the first row.
+fn put_said(word: &str, pred: Pred, table: &Table, given: &mut String) -> Result<(), CaseError> {
+    if !is_typed(&pred, table) || table.rows() == 0 {
         return Err(CaseError::Range);
     }
-    Ok(holds(pred, table, 0))
+    put(given, format_args!("{word} {}\n", holds(&pred, table, 0)));
+    Ok(())
 }

@@ -1,9 +1,13 @@
 // Scripts as they are printed.
+ghost use Rattle.std.specs.Prelude.{◌≤◌};
+ghost use Rattle.sql_grammar.specs.Formed.{IsWellFormed};
+ghost use Rattle.sql_print.specs.Printed.{script_levels};
+
 use case_text::{CaseError, put};
 use rpt_base::limits::MAX_SCRIPT_BYTES;
-use sql_lex::lex;
+use sql_lex::{Token, lex};
 use sql_print::{print, read_scripts_print};
-use sql_text::parse;
+use sql_text::{Script, parse};
 use std::alloc::Global;
 use std::str;
 
@@ -33,12 +37,24 @@ pub fn printed(alloc: Global, script: &[u8]) -> Result<Vec<u8>, CaseError> {
     if script.len() > MAX_SCRIPT_BYTES as usize {
         return Err(CaseError::Range);
     }
-    let Ok(tokens) = lex(alloc, script) else {
-        return Err(CaseError::Range);
-    };
+    match lex(alloc, script) {
+        Ok(tokens) => printed_tokens(alloc, &tokens, script.len() as u32),
+        Err(_) => Err(CaseError::Range),
+    }
+}
+
+fn printed_tokens(alloc: Global, tokens: &[Token], end: u32) -> Result<Vec<u8>, CaseError> {
     read_scripts_print();
-    let Ok(script) = parse(alloc, &tokens, script.len() as u32) else {
-        return Err(CaseError::Range);
-    };
-    Ok(print(alloc, &script)?)
+    match parse(alloc, tokens, end) {
+        Ok(script) => printed_tree(alloc, script),
+        Err(_) => Err(CaseError::Range),
+    }
+}
+
+// The tree goes with the call, since one that is held where a function branches makes its proof much larger.
+fn printed_tree(alloc: Global, script: Script) -> Result<Vec<u8>, CaseError>
+    requires well_formed { IsWellFormed script }
+    requires levels { script_levels script ≤ 64 }
+{
+    print(alloc, &script).map_err(|_| CaseError::Memory)
 }

@@ -49,12 +49,26 @@ fn put_parsed(
 ) -> Result<(), CaseError> {
     read_scripts_print();
     match parse(alloc, tokens, end) {
-        Ok(script) => put_read(alloc, word, &script, given),
+        Ok(script) => put_tree_of(alloc, word, script, given),
         Err(error) => {
             put(given, format_args!("{error}\n"));
             Ok(())
         }
     }
+}
+
+// The tree goes with the call, since one that is held where a function branches makes its proof much larger.
+fn put_tree_of(
+    alloc: Global,
+    word: &str,
+    script: Script,
+    given: &mut String,
+) -> Result<(), CaseError>
+    requires well_formed { IsWellFormed script }
+    requires levels { script_levels script ≤ 64 }
+    requires sources { 1 ≤ length script.select.sources }
+{
+    put_read(alloc, word, &script, given)
 }
 
 // What is asked of a script that was read.
