@@ -1,10 +1,11 @@
 -- What a report is asked of, and that the numbers of a run are those of its course.
-use Rattle.std.proofs.Common.{◌≡◌, ◌∙◌, ap, sym, subst, get_or, ℕ, zero, suc, ◌+◌, ◌<◌, ◌≤◌, List, ◌∷◌, length, map, refl, arith}
+use Rattle.std.proofs.Common.{◌≡◌, ◌∙◌, ap, sym, subst, get_or, ℕ, ◌<◌, List, length, map, arith}
 use Rattle.std.specs.Prelude.{Bool, IfSome, None, Option, Some}
 use Rattle.std.specs.List.{All, range_with_len}
 use Rattle.std.proofs.lemmas.List.Elements.{Contains-get_or}
 use Rattle.std.proofs.lemmas.List.FromFn.{length-map-range_with_len}
 use Rattle.column_table.specs.Table.{Rows}
+use Rattle.column_table.proofs.ListFacts.{map-range}
 use Rattle.bound_query.specs.Query.{BoundQuery}
 use Rattle.bound_query.specs.Answer.{counts_of}
 use Rattle.join_graph.specs.declared.tree.Tree.{Tree}
@@ -50,11 +51,6 @@ module _ (b : BoundQuery) (options : Options) (plan : Plan) (is : IsPlanFor b op
       by set None h = tt
       by set (Some t) h = h.joins.parents
 
--- images of the numbers of a range are equal where they are of each
-same-counts : (f g : ℕ → ℕ) (a n : ℕ) → ((r : ℕ) → a ≤ r → r < a + n → f r ≡ g r) → map f (range_with_len a n) ≡ map g (range_with_len a n)
-same-counts f g a zero each = refl
-same-counts f g a (suc n) each = λ i. each a (omega arith) (omega arith) i ∷ same-counts f g (a + 1) n (λ r low high. each r (omega arith) (omega arith)) i
-
 module _ (b : BoundQuery) (tables : List Rows) (options : Options) (o : Outcome) (tells : TellsRun b tables options o) (rows selected : List ℕ) (rows_are : rows ≡ counts_of b.query tables) (selected_are : selected ≡ o.selected) where
   abbrev n : ℕ
   n = length b.query.table_of
@@ -79,7 +75,7 @@ module _ (b : BoundQuery) (tables : List Rows) (options : Options) (o : Outcome)
   told-counts =
       let kept : map (kept_count o.transfer) (range_with_len 0 (length selected)) ≡ map (λ r. length (joined_rows options.filter b tables (plan_of o) r)) (range_with_len 0 n)
       = ap (λ (k : ℕ). map (kept_count o.transfer) (range_with_len 0 k)) selected-count
-      ∙ same-counts (kept_count o.transfer) (λ r. length (joined_rows options.filter b tables (plan_of o) r)) 0 n (λ r low high. (tells.counts r (omega (arith, high))).1) in
+      ∙ map-range (kept_count o.transfer) (λ r. length (joined_rows options.filter b tables (plan_of o) r)) 0 n (λ r lt. (tells.counts r (omega (arith, lt))).1) in
       λ i. record { filter = options.filter; rows = rows_are i; selected = (selected_are ∙ tells.selected) i; reduced = kept i; prefixes = tells.joined.counts i }
 
   -- so its report is what explain says
