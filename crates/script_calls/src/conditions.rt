@@ -37,8 +37,7 @@ fn put_test(cond: &Cond, given: &mut String) {
         } => {
             put(given, format_args!("{at}:{} ", op_text(*op)));
             put_expr(left, given);
-            put(given, ",");
-            put_expr(right, given)
+            put_next(right, given)
         }
         Cond::Between {
             at,
@@ -48,11 +47,21 @@ fn put_test(cond: &Cond, given: &mut String) {
             high,
         } => {
             put_head(*at, *negated, "between", operand, given);
-            put(given, ",");
-            put_expr(low, given);
-            put(given, ",");
-            put_expr(high, given)
+            put_next(low, given);
+            put_next(high, given)
         }
+        other => put_member(other, given),
+    }
+}
+
+fn put_next(expr: &Expr, given: &mut String) {
+    put(given, ",");
+    put_expr(expr, given)
+}
+
+// A test of a list or a pattern.
+fn put_member(cond: &Cond, given: &mut String) {
+    match cond {
         Cond::InList {
             at,
             negated,

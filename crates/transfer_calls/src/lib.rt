@@ -5,6 +5,7 @@
 
 mod kept;
 mod parts;
+mod places;
 mod plans;
 mod steps;
 mod trees;
@@ -24,6 +25,8 @@ pub fn put_given(alloc: Global, case: &Case, given: &mut String) -> Result<(), C
         }
         "tree" => kept::put_tree(alloc, trees::parts_of(alloc, case)?, given),
         "kept" => kept::put_kept(alloc, trees::parts_of(alloc, case)?, given),
+        "place" => places::put_place(case.head.as_str(), given),
+        "bloom_words" => places::put_words(case.head.as_str(), given),
         _ => Err(CaseError::Word),
     }
 }
