@@ -1,7 +1,7 @@
 mod AllowedFacts
 pub mod AnswerFacts
 pub mod Full
-mod Keeps
+pub mod Keeps
 pub mod Lists
 pub mod Masks
 mod PlainFacts

@@ -1,6 +1,7 @@
 -- Plans of pipes as contracts see them, and which of them are valid.
 use Rattle.std.specs.Prelude.{◌≡◌, ℕ, ◌%◌, ◌^◌, ◌<◌, ◌≤◌, ◌==◌, ◌&&◌, nat_lt, nat_le, All, Bool, IsTrue, List, [], filter, length, map, slice_index, slice_index_or, sum_by, take}
 use Rattle.std.specs.List.{list_all, list_any}
+use Rattle.rpt_base.specs.Limits.{IsMorsel}
 use Rattle.key_codes.specs.Placement.{Places, place_of}
 use Rattle.key_codes.specs.Placement.Kind.{Exact}
 use Rattle.key_codes.specs.declared.places.Place.{Place}
@@ -73,12 +74,6 @@ is_written pipes r = list_any (λ x. list_any (λ a. a.region == r) x.writes) pi
 -- what pipe p reads is written by pipes before it
 abbrev pub are_written : List Pipe → ℕ → Bool
 are_written pipes p = list_all (λ a. is_written (take p pipes) a.region) (pipe_at pipes p).reads
-
--- 64 to 65,536, a multiple of 64
-pub record IsMorsel (size : ℕ) : Type 0 where
-  pub some : 64 ≤ size
-  pub most : size ≤ 65536
-  pub whole : size % 64 ≡ 0
 
 -- each of these ports serves the items of pipe p
 abbrev pub all_serve : Shape → ℕ → List Port → Bool

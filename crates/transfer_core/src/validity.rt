@@ -1,18 +1,12 @@
 // Which plans are valid.
 ghost use Rattle.std.specs.Prelude.{◌≡◌, ◌<◌, ◌≤◌, ◌↔◌, ◌==◌, IsTrue, filter, length, slice_index};
 ghost use Rattle.std.specs.List.{list_all, list_any};
-ghost use Rattle.transfer_core.specs.Plans.{AreRegions, ArePipes, IsMorsel, IsPipe, IsRegion, IsValid, are_written, is_written, serves, shape_of, writers_of};
+ghost use Rattle.transfer_core.specs.Plans.{AreRegions, ArePipes, IsPipe, IsRegion, IsValid, are_written, is_written, serves, shape_of, writers_of};
 
-use crate::limits::{MAX_MORSEL, MAX_PIPES, MAX_WRITES, MIN_MORSEL};
+use crate::limits::{MAX_PIPES, MAX_WRITES};
 use crate::{Pipe, Plan, Port};
 use key_codes::Placement;
-
-// Whether a morsel has 64 to 65,536 items, a multiple of 64.
-fn is_morsel(size: u32) -> bool
-    ensures { IsTrue result ↔ IsMorsel size }
-{
-    size >= MIN_MORSEL && size <= MAX_MORSEL && size % MIN_MORSEL == 0
-}
+use rpt_base::limits::is_morsel;
 
 // Whether a port's region and placement are there, and fit each other and a pipe of so many items.
 fn serves<P: Placement>(plan: &Plan<P>, items: u32, port: &Port) -> bool

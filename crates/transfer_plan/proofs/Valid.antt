@@ -11,6 +11,7 @@ use Rattle.std.proofs.lemmas.List.Folds.{list_all-map}
 use Rattle.std.proofs.lemmas.List.FromFn.{length-range_with_len}
 use mathlib.Core.Logic.{dite}
 use native.Mathlib.Decide.{dec_le}
+use Rattle.rpt_base.specs.Limits.{IsMorsel}
 use Rattle.join_graph.specs.declared.tree.Link.{Link}
 use Rattle.join_graph.specs.declared.tree.Tree.{Tree}
 use Rattle.join_graph.specs.JoinList.{Extends, HasParents, has}
@@ -22,7 +23,7 @@ use Rattle.transfer_core.proofs.Sums.{below_yes, only_no}
 use Rattle.transfer_core.specs.declared.plan.Pipe.{Pipe}
 use Rattle.transfer_core.specs.declared.plan.Plan.{Plan}
 use Rattle.transfer_core.specs.declared.plan.Port.{Port}
-use Rattle.transfer_core.specs.Plans.{IsMorsel, IsValid, Shape, no_places, places_at, serves, shape_of, words_of}
+use Rattle.transfer_core.specs.Plans.{IsValid, Shape, no_places, places_at, serves, shape_of, words_of}
 use Rattle.transfer_plan.specs.declared.plan.Edge.{Edge}
 use Rattle.transfer_plan.specs.declared.region.Region.{Region}
 use Rattle.transfer_plan.specs.declared.region.Region.TheVariants as region

@@ -7,6 +7,7 @@
 use Rattle.std.specs.Prelude.{◌≡◌, ◌⊎◌, ℕ, ◌+◌, ◌*◌, ◌<◌, ◌≤◌, ◌==◌, ◌&&◌, not, Bool, false, List, [], ◌∷◌, ◌++◌, filter, if◌then◌else◌, length, map, max, reverse, slice_index, slice_index_or}
 use Rattle.std.specs.Int.{div_ceil}
 use Rattle.std.specs.List.{flat_map, position_or_len, range_with_len}
+use Rattle.rpt_base.specs.Limits.{IsMorsel}
 use Rattle.join_graph.specs.declared.tree.Link.{Link}
 use Rattle.join_graph.specs.declared.tree.Tree.{Tree}
 use Rattle.join_graph.specs.JoinList.{HasParents}
@@ -15,7 +16,7 @@ use Rattle.key_codes.specs.Placement.Kind.{Exact}
 use Rattle.transfer_core.specs.declared.plan.Pipe.{Pipe}
 use Rattle.transfer_core.specs.declared.plan.Plan.{Plan}
 use Rattle.transfer_core.specs.declared.plan.Port.{Port}
-use Rattle.transfer_core.specs.Plans.{IsMorsel, no_places}
+use Rattle.transfer_core.specs.Plans.{no_places}
 use Rattle.transfer_plan.specs.declared.plan.Edge.{Edge}
 use Rattle.transfer_plan.specs.declared.region.Region.{Region}
 use Rattle.transfer_plan.specs.declared.region.Region.TheVariants as region
