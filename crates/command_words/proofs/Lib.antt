@@ -1,1 +1,3 @@
 mod SettingFacts
+mod NumberFacts
+mod LimitFacts

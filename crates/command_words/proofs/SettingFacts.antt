@@ -2,10 +2,10 @@
 use Rattle.std.proofs.Common.{◌≡◌, ◌∙◌, ap, ℕ, ◌+◌, ◌-◌, ◌<◌, ◌≤◌, List, [], ◌∷◌, length, drop, get_or, refl, sym, arith}
 use Rattle.std.specs.Prelude.{true, false, Option, None, Some, Ok, Err, String, string_bytes}
 use Rattle.std.proofs.lemmas.List.{drop-drop, drop-map, drop_all, length-drop, get_or-map, length-map}
-use Rattle.command_words.specs.Steps.{GivesSettings, TakesSetting}
+use Rattle.command_words.specs.Steps.{GivesSettings, TakesOption, TakesSetting}
 use Rattle.command_words.specs.declared.words.WordsError.{WordsError}
 use Rattle.command_words.specs.declared.words.WordsError.TheVariants as words_error
-use Rattle.command_words.specs.Words.{no_settings, settings_behind, takes_force, takes_order, words_of}
+use Rattle.command_words.specs.Words.{no_settings, settings_behind, takes_force, with_option, words_of}
 use Rattle.command_words.specs.declared.settings.Settings.{Settings}
 
 -- a word's bytes
@@ -29,12 +29,12 @@ behind-force s (word ∷ []) some takes = rw takes refl
 behind-force s (word ∷ value ∷ words) some takes = rw takes refl
 
 -- an option that is taken with its value
-pub behind-order : (s : Settings) (words : List (List ℕ)) → 2 ≤ length words → takes_force s (get_or words 0 []) ≡ false → takes_order s (get_or words 0 []) (get_or words 1 []) ≡ true
-    → settings_behind s words ≡ settings_behind (record s { order = Some (get_or words 1 []) }) (drop 2 words)
+pub behind-option : (s more : Settings) (words : List (List ℕ)) → 2 ≤ length words → takes_force s (get_or words 0 []) ≡ false
+    → with_option s (get_or words 0 []) (get_or words 1 []) ≡ Some more → settings_behind s words ≡ settings_behind more (drop 2 words)
 unfolding settings_behind
-behind-order s [] two force takes = absurd (omega arith)
-behind-order s (word ∷ []) two force takes = absurd (omega arith)
-behind-order s (word ∷ value ∷ words) two force takes = rw (force, takes) refl
+behind-option s more [] two force takes = absurd (omega arith)
+behind-option s more (word ∷ []) two force takes = absurd (omega arith)
+behind-option s more (word ∷ value ∷ words) two force takes = rw (force, takes) refl
 
 -- a last word that isn't taken
 pub behind-last : (s : Settings) (words : List (List ℕ)) → 1 ≤ length words → length words ≤ 1 → takes_force s (get_or words 0 []) ≡ false → settings_behind s words ≡ None
@@ -44,18 +44,24 @@ behind-last s (word ∷ []) some last force = rw force refl
 behind-last s (word ∷ value ∷ words) some last force = absurd (omega arith)
 
 -- a word that isn't taken, nor with its value
-pub behind-none : (s : Settings) (words : List (List ℕ)) → 2 ≤ length words → takes_force s (get_or words 0 []) ≡ false → takes_order s (get_or words 0 []) (get_or words 1 []) ≡ false
-    → settings_behind s words ≡ None
+pub behind-none : (s : Settings) (words : List (List ℕ)) → 2 ≤ length words → takes_force s (get_or words 0 []) ≡ false
+    → with_option s (get_or words 0 []) (get_or words 1 []) ≡ None → settings_behind s words ≡ None
 unfolding settings_behind
-behind-none s [] two force order = absurd (omega arith)
-behind-none s (word ∷ []) two force order = absurd (omega arith)
-behind-none s (word ∷ value ∷ words) two force order = rw (force, order) refl
+behind-none s [] two force takes = absurd (omega arith)
+behind-none s (word ∷ []) two force takes = absurd (omega arith)
+behind-none s (word ∷ value ∷ words) two force takes = rw (force, takes) refl
 
 -- an error where words are taken is one of all words
 pub takes-error : (old new : Settings) (words : List (List ℕ)) (said : Option Settings) (e : WordsError) → said ≡ settings_behind old words → TakesSetting old new words (Err e)
     → GivesSettings said (Err e)
 takes-error old new words said words_error.Usage is none = is ∙ none
 takes-error old new words said words_error.Memory is h = tt
+
+-- an error where an option is taken is one of its words
+pub option-error : (old new : Settings) (words : List (List ℕ)) {said : Option Settings} (e : WordsError) → 2 ≤ length words → takes_force old (get_or words 0 []) ≡ false
+    → with_option old (get_or words 0 []) (get_or words 1 []) ≡ said → TakesOption said new (Err e) → TakesSetting old new words (Err e)
+option-error old new words words_error.Usage two force is none = behind-none old words two force (is ∙ none)
+option-error old new words words_error.Memory two force is h = tt
 
 -- nothing is left to be read
 pub behind-all : (s : Settings) (words : List (List ℕ)) (n : ℕ) → length words ≤ n → settings_behind s (drop n words) ≡ Some s

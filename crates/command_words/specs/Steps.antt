@@ -11,6 +11,12 @@ GivesSettings said (Ok settings) = said ≡ Some settings
 GivesSettings said (Err words_error.Usage) = said ≡ None
 GivesSettings said (Err words_error.Memory) = Unit {0}
 
+-- the settings became those that are said, or there are none; or memory ran out
+abbrev pub TakesOption : Option Settings → Settings → Result (Unit {0}) WordsError → Type 0
+TakesOption said new (Ok done) = said ≡ Some new
+TakesOption said new (Err words_error.Usage) = said ≡ None
+TakesOption said new (Err words_error.Memory) = Unit {0}
+
 -- some words were taken, and the rest says what all said; or they say nothing; or memory ran out
 abbrev pub TakesSetting : Settings → Settings → List (List ℕ) → Result ℕ WordsError → Type 0
 TakesSetting old new words (Ok n) = (1 ≤ n) × (n ≤ length words) × (settings_behind old words ≡ settings_behind new (drop n words))

@@ -1,15 +1,20 @@
 // The options and flags behind the first three words.
 ghost use Rattle.std.specs.Prelude.{◌≡◌, ◌≤◌, drop, length};
-ghost use Rattle.command_words.specs.Words.{begins_with_dash, no_settings, settings_behind, takes_force, takes_order, words_of};
-ghost use Rattle.command_words.specs.Steps.{GivesSettings, TakesSetting};
+ghost use Rattle.command_words.specs.Words.{begins_with_dash, filter_of, no_settings, settings_behind, takes_force, words_of};
+ghost use Rattle.command_words.specs.Words.{set_filter, set_morsel, set_order, set_workers, with_option};
+ghost use Rattle.command_words.specs.Steps.{GivesSettings, TakesOption, TakesSetting};
 
+use crate::numbers::{morsel_of, workers_of};
 use crate::words::WordsError;
-use rpt_base::Str;
+use rpt_base::{FilterKind, Str};
 use std::alloc::Global;
 
-/// What the options and flags say.
+/// What the options and flags say. An option that doesn't stand there is none.
 #[derive(Debug, Drop)]
 pub(crate) struct Settings {
+    pub(crate) filter: Option<FilterKind>,
+    pub(crate) workers: Option<u32>,
+    pub(crate) morsel: Option<u32>,
     pub(crate) order: Option<Str>,
     pub(crate) force: bool,
 }
@@ -20,6 +25,9 @@ pub(crate) fn read_settings(alloc: Global, words: &[String]) -> Result<Settings,
     ensures { GivesSettings (settings_behind no_settings (words_of words.now)) result }
 {
     let mut settings = Settings {
+        filter: None,
+        workers: None,
+        morsel: None,
         order: None,
         force: false,
     };
@@ -58,15 +66,10 @@ fn take_setting(
     if words.len() < 2 {
         return Err(WordsError::Usage);
     }
-    let value = words[1].as_str();
-    if !takes_order(settings, word, value) {
-        return Err(WordsError::Usage);
+    match take_option(alloc, settings, word, words[1].as_str()) {
+        Ok(()) => Ok(2),
+        Err(error) => Err(error),
     }
-    let Ok(order) = Str::from_text(alloc, value) else {
-        return Err(WordsError::Memory);
-    };
-    settings.order = Some(order);
-    Ok(2)
 }
 
 fn takes_force(settings: &Settings, word: &str) -> bool
@@ -75,10 +78,89 @@ fn takes_force(settings: &Settings, word: &str) -> bool
     word == "--force" && !settings.force
 }
 
-fn takes_order(settings: &Settings, word: &str, value: &str) -> bool
-    ensures { result ≡ takes_order settings.now word.now value.now }
+// Takes an option with its value.
+#[tactic(auto, unfolding(crate::specs::Words::with_option))]
+fn take_option(
+    alloc: Global,
+    settings: &mut Settings,
+    option: &str,
+    value: &str,
+) -> Result<(), WordsError>
+    ensures { TakesOption (with_option settings.old option.now value.now) settings.new result }
 {
-    word == "--order" && settings.order.is_none() && !is_option(value)
+    if is_option(value) {
+        return Err(WordsError::Usage);
+    }
+    match option {
+        "--filter" => take_filter(settings, value),
+        "--workers" => take_workers(settings, value),
+        "--morsel" => take_morsel(settings, value),
+        "--order" => take_order(alloc, settings, value),
+        _ => Err(WordsError::Usage),
+    }
+}
+
+fn take_filter(settings: &mut Settings, value: &str) -> Result<(), WordsError>
+    ensures { TakesOption (set_filter settings.old value.now) settings.new result }
+{
+    match (settings.filter, filter_of(value)) {
+        (None, Some(filter)) => {
+            settings.filter = Some(filter);
+            Ok(())
+        }
+        _ => Err(WordsError::Usage),
+    }
+}
+
+fn take_workers(settings: &mut Settings, value: &str) -> Result<(), WordsError>
+    ensures { TakesOption (set_workers settings.old value.now) settings.new result }
+{
+    match (settings.workers, workers_of(value)) {
+        (None, Some(workers)) => {
+            settings.workers = Some(workers);
+            Ok(())
+        }
+        _ => Err(WordsError::Usage),
+    }
+}
+
+fn take_morsel(settings: &mut Settings, value: &str) -> Result<(), WordsError>
+    ensures { TakesOption (set_morsel settings.old value.now) settings.new result }
+{
+    match (settings.morsel, morsel_of(value)) {
+        (None, Some(morsel)) => {
+            settings.morsel = Some(morsel);
+            Ok(())
+        }
+        _ => Err(WordsError::Usage),
+    }
+}
+
+fn take_order(alloc: Global, settings: &mut Settings, value: &str) -> Result<(), WordsError>
+    ensures { TakesOption (set_order settings.old value.now) settings.new result }
+{
+    if settings.order.is_some() {
+        return Err(WordsError::Usage);
+    }
+    match Str::from_text(alloc, value) {
+        Ok(order) => {
+            settings.order = Some(order);
+            Ok(())
+        }
+        Err(_) => Err(WordsError::Memory),
+    }
+}
+
+// The filters that a word names.
+fn filter_of(word: &str) -> Option<FilterKind>
+    ensures { result ≡ filter_of word.now }
+{
+    match word {
+        "bloom" => Some(FilterKind::Bloom),
+        "exact" => Some(FilterKind::Exact),
+        "none" => Some(FilterKind::Off),
+        _ => None,
+    }
 }
 
 /// Whether a word begins with a dash, as options and flags do.
