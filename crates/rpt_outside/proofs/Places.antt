@@ -22,3 +22,9 @@ pub place-none : {Z : Type 0} (files : List (Vec ℕ Z × Vec ℕ Z)) (name : Li
 place-none [] name below = refl
 place-none (file ∷ files) name below =
     place-first (file ∷ files) name (length (file ∷ files)) file (omega arith) (below file) (λ h. absurd (omega arith))
+
+-- past the last file there are no bytes
+pub bytes_at-past : {Z : Type 0} (files : List (Vec ℕ Z × Vec ℕ Z)) (i : ℕ) → length files ≤ i → bytes_at files i ≡ []
+bytes_at-past [] i past = refl
+bytes_at-past (file ∷ files) zero past = absurd (omega arith)
+bytes_at-past (file ∷ files) (suc i) past = bytes_at-past files i (omega arith)

@@ -12,6 +12,10 @@ bytes_at [] i = []
 bytes_at (file ∷ files) zero = file.1.items
 bytes_at (file ∷ files) (suc i) = bytes_at files i
 
+-- the bytes of the first file of a name; none, where there is no such file
+abbrev pub held_bytes : {Z : Type 0} → List (Vec ℕ Z × Vec ℕ Z) → List ℕ → List ℕ
+held_bytes files name = bytes_at files (place files name)
+
 -- the contents of the first file of a name, if there is one
 abbrev pub contents_of : {Z : Type 0} → List (Vec ℕ Z × Vec ℕ Z) → List ℕ → Option (List ℕ)
 contents_of files name =

@@ -7,6 +7,7 @@
 #![tactic(auto)]
 
 mod folder;
+mod held_files;
 mod memory_files;
 mod memory_sink;
 mod stream;
@@ -14,6 +15,7 @@ mod traits;
 mod whole;
 
 pub use folder::FolderFiles;
+pub use held_files::HeldFiles;
 pub use memory_files::MemoryFiles;
 pub use memory_sink::MemorySink;
 pub use stream::StreamSink;

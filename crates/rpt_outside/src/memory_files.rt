@@ -101,8 +101,8 @@ impl Files for MemoryFiles {
     }
 }
 
-// Copies bytes from a place on, and gives their number and the place where they end.
-fn copy_from(bytes: &[u8], at: usize, piece: u32, into: &mut [u8]) -> (usize, usize)
+/// Copies bytes from a place on, and gives their number and the place where they end.
+pub(crate) fn copy_from(bytes: &[u8], at: usize, piece: u32, into: &mut [u8]) -> (usize, usize)
     requires { 1 ≤ piece }
     ensures bound { result.0 ≤ length into.new }
     ensures bytes { drop at bytes.now ≡ take result.0 into.new ++ drop result.1 bytes.now }
@@ -132,8 +132,8 @@ fn raise(counts: &mut Vec<u64>, at: usize)
     counts[at] = count;
 }
 
-// The place of the first file of that name, or the number of files.
-fn place_of(files: &[(Vec<u8>, Vec<u8>)], name: &[u8]) -> usize
+/// The place of the first file of that name, or the number of files.
+pub(crate) fn place_of(files: &[(Vec<u8>, Vec<u8>)], name: &[u8]) -> usize
     ensures place { result ≡ place files.now name.now }
     ensures bound { result ≤ length files.now }
 {
@@ -147,7 +147,8 @@ fn place_of(files: &[(Vec<u8>, Vec<u8>)], name: &[u8]) -> usize
     files.len()
 }
 
-fn bytes_of(files: &[(Vec<u8>, Vec<u8>)], at: usize) -> &[u8]
+/// The bytes of the file at a place.
+pub(crate) fn bytes_of(files: &[(Vec<u8>, Vec<u8>)], at: usize) -> &[u8]
     requires { at < length files.now }
     ensures { result.now ≡ bytes_at files.now at }
 {

@@ -1,0 +1,3 @@
+mod DrawFacts
+mod NameFacts
+mod RowFacts
