@@ -1,0 +1,13 @@
+mod BoardFacts
+mod CopyFacts
+mod DealFacts
+mod DrawFacts
+mod FinishFacts
+mod ListFacts
+mod LookFacts
+mod MarkFacts
+mod Moves
+mod Offsets
+mod PutFacts
+mod ShareFacts
+mod WordFacts

@@ -1,0 +1,5 @@
+pub mod Laid
+pub mod Layout
+pub mod Rule
+pub mod Shares
+pub mod Views
