@@ -1,11 +1,11 @@
 -- When a query can be answered along an order.
 use Rattle.std.specs.Prelude.{◌≡◌, ℕ, ◌≤◌, Bool, true, false, IfSome, List, length, Option, None, Some, ⊤}
+use Rattle.rpt_base.specs.Limits.{IsMorsel}
 use Rattle.bound_query.specs.Query.{BoundQuery}
 use Rattle.join_graph.specs.JoinList.{IsAcyclic}
 use Rattle.join_graph.specs.SafeSet.{IsSafe}
 use Rattle.largest_root.specs.Greedy.{IsCyclic}
 use Rattle.safe_subjoin.specs.SafeOrder.{IsFirstUnsafe, IsOrder, first_of}
-use Rattle.transfer_core.specs.Plans.{IsMorsel}
 use Rattle.rpt_engine.specs.declared.errors.PrepareError.{PrepareError}
 use Rattle.rpt_engine.specs.declared.errors.PrepareError.TheVariants.{Cyclic, UnsafeOrder, Memory}
 use Rattle.rpt_engine.specs.declared.options.Options.{Options}

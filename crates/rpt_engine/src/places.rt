@@ -1,10 +1,12 @@
 // Places of any kind, since a plan has one type of places.
+use bloom_block::Bloom;
 use exact_filter::{Exact, RowPlaces};
 use key_codes::{Place, Placement};
 
 /// The places of a relation's items: by their keys with another relation, or by themselves.
 #[derive(Debug, Drop)]
 pub enum AnyPlace {
+    Bloom(Bloom),
     Exact(Exact),
     Rows(RowPlaces),
 }
@@ -16,6 +18,7 @@ impl Placement for AnyPlace {
 
     fn items(&self) -> u32 {
         match self {
+            AnyPlace::Bloom(places) => places.items(),
             AnyPlace::Exact(places) => places.items(),
             AnyPlace::Rows(places) => places.items(),
         }
@@ -23,6 +26,7 @@ impl Placement for AnyPlace {
 
     fn least_words(&self) -> u32 {
         match self {
+            AnyPlace::Bloom(places) => places.least_words(),
             AnyPlace::Exact(places) => places.least_words(),
             AnyPlace::Rows(places) => places.least_words(),
         }
@@ -30,6 +34,7 @@ impl Placement for AnyPlace {
 
     fn place(&self, item: u32, words: u32) -> Place {
         match self {
+            AnyPlace::Bloom(places) => places.place(item, words),
             AnyPlace::Exact(places) => places.place(item, words),
             AnyPlace::Rows(places) => places.place(item, words),
         }
