@@ -22,14 +22,17 @@ use Rattle.refusal_lines.specs.declared.refusal.Refusal.TheVariants.{Usage, Read
 use Rattle.command_words.specs.declared.words.Command.{Command}
 use Rattle.command_words.specs.Words.{command_of}
 use Rattle.rpt_cli.specs.Scripts.{IsScript}
-use Rattle.rpt_cli.specs.Course.{Answer, Course, Ends, Asks, Finds, Gives, Leads, goes_on}
+use Rattle.rpt_cli.specs.Course.{Answer, Course, Ends, Asks, Finds, Gives, Leads, goes_on, over_files}
 use Rattle.rpt_cli.specs.Matters.{Found, IsFound}
 use Rattle.rpt_cli.specs.Orders.{order_of}
 use Rattle.command_words.specs.declared.words.Mode.{Mode}
 use Rattle.command_words.specs.declared.words.Mode.TheVariants as mode
 use Rattle.rpt_cli.proofs.PreparedFacts.{Refused, ByCycle, ByNames, ByPrefix, why-refused}
-use Rattle.rpt_cli.specs.Command.{answer_text, bytes_course, command_course, course, course_of, explain_text, filter_of, join_course, mode_course, most_table_bytes, query_course, query_or, tables_course, unless_overflow}
+use Rattle.rpt_cli.specs.Command.{answer_text, bytes_course, command_course, course, course_of, explain_text, files_course, is_made, join_course, mode_course, most_table_bytes, number_of, query_course, query_or, sample_course, summary_text, tables_course, unless_overflow}
+use Rattle.rpt_cli.specs.Sample.{file_bytes}
 use Rattle.rpt_cli.specs.Tables.{table_file, table_or}
+use Rattle.sample_gen.specs.Script.{sample_script}
+use Rattle.sample_gen.specs.Tables.{sample_tables}
 use Rattle.rpt_cli.specs.Delivery.{Delivers}
 use Rattle.refusal_lines.specs.Message.{status_of}
 use Rattle.rpt_cli.specs.Outcome.{Answers}
@@ -90,6 +93,16 @@ module _ (given : Option (List ℕ)) where
       tables-ends folder (λ tables. join_course filter bound order tables (λ plan. Ends (Ok (explain_text filter bound tables plan)))) most_table_bytes [] bound.query.tables
       (λ tables. join-ends filter bound order tables (λ plan. Ends (Ok (explain_text filter bound tables plan))) (λ plan. tt))
   mode-ends mode.Check filter folder bound order = (λ e h. absurd h, λ plan. tt)
+  mode-ends mode.Sample filter folder bound order =
+      tables-ends folder (λ tables. join_course filter bound order tables (λ plan. Ends (Ok (summary_text filter bound tables plan)))) most_table_bytes [] bound.query.tables
+      (λ tables. join-ends filter bound order tables (λ plan. Ends (Ok (summary_text filter bound tables plan))) (λ plan. tt))
+
+  -- over files that are given a course has no other ends
+  over-ends : (contents : List ℕ → List ℕ) (course : Course) → EndsOverContents given course → EndsOverContents given (over_files contents course)
+  unfolding over_files
+  over-ends contents (Ends end) p = p
+  over-ends contents (Asks name next) p = over-ends contents (next (contents name)) (p (contents name))
+  over-ends contents (Finds matter next) p = (p.0, λ x. over-ends contents (next x) (p.1 x))
 
   -- what is refused as no script is refused for what it is
   script-refusal : (bytes : List ℕ) (e : Refusal) → IsScript bytes (Err e) → IsOverContents given (Err e)
@@ -142,17 +155,26 @@ prepared-refusal query order force e (ByPrefix prefix known are acyclic named is
 query-ends : (command : Command) (query : Query) → EndsOverContents command.order (query_course command query)
 query-ends command query = (
   λ e h. prepared-refusal query command.order command.force e (why-refused query command.order command.force e h),
-  λ found. mode-ends command.order command.mode (filter_of command) command.folder (record { query = query; known = found.known }) found.order,
+  λ found. mode-ends command.order command.mode command.filter command.folder (record { query = query; known = found.known }) found.order,
 )
 
 read-ends : (command : Command) (fault : Option Fault) (query : Query) → EndsOverContents command.order (goes_on (query_or fault query) (query_course command))
 read-ends command None query = query-ends command query
 read-ends command (Some fault) query = tt
 
+bytes-ends : (command : Command) (bytes : List ℕ) → EndsOverContents command.order (bytes_course bytes (query_course command))
+bytes-ends command bytes = (λ e h. script-refusal command.order bytes e h, λ script. read-ends command (script_refusal script) (query_of script))
+
+files-ends : (command : Command) → EndsOverContents command.order (files_course command)
+files-ends command bytes =
+    either command.order (nat_lt MAX_SCRIPT_BYTES (length bytes)) (Ends (Err (TooLarge command.script))) (bytes_course bytes (query_course command)) tt (bytes-ends command bytes)
+
+sample-ends : (command : Command) → EndsOverContents command.order (sample_course command)
+sample-ends command =
+    over-ends command.order (file_bytes command.folder (sample_tables (number_of command))) (bytes_course sample_script (query_course command)) (bytes-ends command sample_script)
+
 command-ends : (command : Command) → EndsOverContents command.order (command_course command)
-command-ends command bytes =
-    either command.order (nat_lt MAX_SCRIPT_BYTES (length bytes)) (Ends (Err (TooLarge command.script))) (bytes_course bytes (query_course command)) tt
-    (λ e h. script-refusal command.order bytes e h, λ script. read-ends command (script_refusal script) (query_of script))
+command-ends command = either command.order (is_made command.mode) (sample_course command) (files_course command) (sample-ends command) (files-ends command)
 
 -- the same of the words' course, which ends at once with a usage where the words are no command
 abbrev Tells : (List ℕ → ℕ) → (List ℕ → ℕ) → Option Command → Answer → Type 0

@@ -1,11 +1,11 @@
 -- Steps of a course.
 use Rattle.std.proofs.Common.{◌≡◌, ◌⊎◌, inl, inr, refl, ℕ, suc, ◌<◌, ◌≤◌, List, length, nat_lt, true, false, ap, subst, arith}
 use Rattle.std.proofs.lemmas.Bool.{le-leb}
-use Rattle.std.specs.Prelude.{Bool, Option, Result, Ok, Err, MatchResult, if◌then◌else◌}
+use Rattle.std.specs.Prelude.{Bool, Option, Some, Result, Ok, Err, MatchResult, if◌then◌else◌}
 use Rattle.rpt_outside.specs.Causes.{NeverFalls, Rose, Tells}
 use Rattle.refusal_lines.specs.declared.refusal.Refusal.{Refusal}
 use Rattle.refusal_lines.specs.declared.refusal.Refusal.TheVariants.{ReadFault, TooLarge, Memory}
-use Rattle.rpt_cli.specs.Course.{Answer, Asks, Course, Ends, Finds, Gives, IsFoundAs, Leads}
+use Rattle.rpt_cli.specs.Course.{Answer, Asks, Course, Ends, Finds, Gives, IsFoundAs, Leads, over_files}
 use Rattle.rpt_cli.specs.Matters.{Found, Matter}
 use Rattle.rpt_cli.specs.Command.{asks_within}
 use Rattle.rpt_cli.specs.Steps.{Passes}
@@ -72,3 +72,23 @@ pub refuses-Gives : (told : List ℕ → Option (List ℕ)) (before now : List �
     → (e ≡ Memory) ⊎ IsFoundAs matter (Err e) → Gives told before now (Finds matter next) (Err e)
 refuses-Gives told before now matter next e (inl memory) = inl (ap Err memory)
 refuses-Gives told before now matter next e (inr only) = inr (Err e, only, refl)
+
+-- a course that led to an answer over files of which none fails leads to it where they are given
+module _ (contents : List ℕ → List ℕ) (told : List ℕ → Option (List ℕ)) (before now : List ℕ → ℕ) where
+  over-Leads : (course : Course) (answer : Answer) → Leads (λ name. Some (contents name)) (λ name. 0) (λ name. 0) course answer → Leads told before now (over_files contents course) answer
+  unfolding over_files
+  over-Leads (Ends end) answer p = p
+  over-Leads (Asks name next) answer (inl p) = absurd (let rose : Rose 0 0 = p.1 in omega arith)
+  over-Leads (Asks name next) answer (inr p) = subst (λ (bytes : List ℕ). Leads told before now (over_files contents (next bytes)) answer) p.1 (over-Leads (next p.0) answer p.2)
+  over-Leads (Finds matter next) answer p = (p.0, p.1, by p.0 (λ x. over-Leads (next x) answer) p.2)
+    where
+      by : (r : Result (Found matter) Refusal)
+          → ((x : Found matter) → Leads (λ name. Some (contents name)) (λ name. 0) (λ name. 0) (next x) answer → Leads told before now (over_files contents (next x)) answer)
+          → MatchResult r (λ x. Leads (λ name. Some (contents name)) (λ name. 0) (λ name. 0) (next x) answer) (λ e. answer ≡ Err e)
+          → MatchResult r (λ x. Leads told before now (over_files contents (next x)) answer) (λ e. answer ≡ Err e)
+      by (Ok x) more l = more x l
+      by (Err e) more l = l
+
+  pub over-Gives : (course : Course) (answer : Answer) → Gives (λ name. Some (contents name)) (λ name. 0) (λ name. 0) course answer → Gives told before now (over_files contents course) answer
+  over-Gives course answer (inl memory) = inl memory
+  over-Gives course answer (inr leads) = inr (over-Leads course answer leads)

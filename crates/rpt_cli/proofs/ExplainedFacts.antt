@@ -1,6 +1,7 @@
 -- A command that explain answers with a text has a query, tables and a plan, of which the text is the report.
-use Rattle.std.proofs.Common.{◌≡◌, inl, inr, refl, sym, subst, ℕ, ◌-◌, List, [], ◌∷◌, ◌++◌, append_assoc, length, nat_lt, Bool, true, false}
+use Rattle.std.proofs.Common.{◌≡◌, inl, inr, refl, sym, ap, subst, ℕ, ◌-◌, List, [], ◌∷◌, ◌++◌, append_assoc, length, nat_lt, Bool, true, false}
 use Rattle.std.specs.Prelude.{Option, None, Some, Result, Ok, Err, MatchResult, if◌then◌else◌, sum}
+use Rattle.std.proofs.lemmas.Bool.{cond-false}
 use Rattle.std.proofs.lemmas.List.{append-nil}
 use Rattle.rpt_base.specs.declared.limits.TheConstants.{MAX_ROWS, MAX_SCRIPT_BYTES}
 use Rattle.rpt_base.specs.declared.filters.FilterKind.{FilterKind}
@@ -20,7 +21,7 @@ use Rattle.command_words.specs.declared.words.Mode.TheVariants as mode
 use Rattle.rpt_cli.specs.Course.{Course, Ends, Finds, Leads, goes_on}
 use Rattle.rpt_cli.specs.Matters.{Found, IsFound, Matter, Planning, Prepared, Preparing, Reading}
 use Rattle.rpt_cli.specs.Tables.{table_file, table_of}
-use Rattle.rpt_cli.specs.Command.{asks_within, bytes_course, command_course, explain_course, explain_text, filter_of, join_course, mode_course, most_table_bytes, query_course, query_of_script, tables_course, unless_overflow}
+use Rattle.rpt_cli.specs.Command.{asks_within, bytes_course, command_course, explain_course, explain_text, files_course, is_made, join_course, mode_course, most_table_bytes, query_course, query_of_script, sample_course, tables_course, unless_overflow}
 use Rattle.rpt_cli.specs.Explained.{AreLoaded, IsRunOf}
 
 module _ (told : List ℕ → Option (List ℕ)) (before now : List ℕ → ℕ) (text : List ℕ) where
@@ -84,13 +85,20 @@ module _ (told : List ℕ → Option (List ℕ)) (before now : List ℕ → ℕ)
   in_mode mode.Run filter folder bound order is l = cc is
   in_mode mode.Explain filter folder bound order is l = l
   in_mode mode.Check filter folder bound order is l = cc is
+  in_mode mode.Sample filter folder bound order is l = cc is
+
+  -- a command in mode explain is answered from files
+  from_files : (command : Command) → command.mode ≡ mode.Explain → Says (command_course command) → Says (files_course command)
+  from_files command is l =
+      let read : is_made command.mode ≡ false = ap is_made is in
+      subst Says (cond-false (is_made command.mode) (sample_course command) (files_course command) read) l
 
   -- so the command has a run that the text explains
   pub explained : (command : Command) → command.mode ≡ mode.Explain → Says (command_course command)
-      → (bound : BoundQuery) × (tables : List Rows) × (plan : Plan) × IsRunOf told command bound tables plan × (text ≡ explain_text (filter_of command) bound tables plan)
+      → (bound : BoundQuery) × (tables : List Rows) × (plan : Plan) × IsRunOf told command bound tables plan × (text ≡ explain_text command.filter bound tables plan)
   explained command is l =
-      let filter = filter_of command in
-      let file = asked MAX_SCRIPT_BYTES command.script (λ bytes. bytes_course bytes (query_course command)) l in
+      let filter = command.filter in
+      let file = asked MAX_SCRIPT_BYTES command.script (λ bytes. bytes_course bytes (query_course command)) (from_files command is l) in
       let script = found (Reading file.0) (λ script. goes_on (query_of_script script) (query_course command)) file.2 in
       let query = went_on (query_of_script script.0) (query_course command) script.2 in
       let prepared = found (Preparing query.0 command.order command.force) (λ (f : Prepared). mode_course command.mode filter command.folder (record { query = query.0; known = f.known }) f.order) query.2 in

@@ -11,3 +11,4 @@ mod RangeFacts
 mod ExplainedFacts
 mod CountsFacts
 mod ReportFacts
+mod SampleFacts

@@ -1,8 +1,8 @@
 -- The course of a command: what it asks for and what it answers, in the order of refusals.
-use Rattle.std.specs.Prelude.{ℕ, ◌-◌, ◌∷◌, ◌++◌, sum, List, [], Result, Ok, Err, Option, None, Some, nat_lt, length, map, if◌then◌else◌}
+use Rattle.std.specs.Prelude.{ℕ, ◌-◌, ◌∷◌, ◌++◌, sum, Bool, true, false, List, [], Result, Ok, Err, Option, None, Some, nat_lt, length, map, if◌then◌else◌}
 use Rattle.std.specs.List.{range_with_len}
+use Rattle.std.specs.Option.{unwrap_or}
 use Rattle.rpt_base.specs.declared.filters.FilterKind.{FilterKind}
-use Rattle.rpt_base.specs.declared.filters.FilterKind.TheVariants as filter_kind
 use Rattle.rpt_base.specs.declared.limits.TheConstants.{MAX_SCRIPT_BYTES, MAX_TABLE_BYTES, MAX_ROWS}
 use Rattle.column_table.specs.declared.declared.Decl.{Decl}
 use Rattle.column_table.specs.Table.{Rows}
@@ -21,12 +21,15 @@ use Rattle.rpt_engine.specs.declared.planning.Plan.{Plan}
 use Rattle.command_words.specs.declared.words.Command.{Command}
 use Rattle.command_words.specs.declared.words.Mode.{Mode}
 use Rattle.command_words.specs.declared.words.Mode.TheVariants as mode
-use Rattle.command_words.specs.Words.{command_of}
+use Rattle.command_words.specs.Words.{command_of, sample_number}
 use Rattle.refusal_lines.specs.declared.refusal.Refusal.{Refusal}
 use Rattle.refusal_lines.specs.declared.refusal.Refusal.TheVariants.{Usage, TooLarge, Bind, TooManyRows, RowsOverflow}
-use Rattle.rpt_cli.specs.Course.{Course, Ends, Asks, Finds, goes_on}
+use Rattle.rpt_cli.specs.Course.{Course, Ends, Asks, Finds, goes_on, over_files}
 use Rattle.rpt_cli.specs.Matters.{Planning, Preparing, Reading}
+use Rattle.rpt_cli.specs.Sample.{file_bytes, size_lines}
 use Rattle.rpt_cli.specs.Tables.{table_file, table_of}
+use Rattle.sample_gen.specs.Script.{sample_script}
+use Rattle.sample_gen.specs.Tables.{sample_tables}
 
 -- a file is asked for, whose contents have at most so many bytes
 abbrev pub asks_within : ℕ → List ℕ → (List ℕ → Course) → Course
@@ -113,6 +116,15 @@ abbrev pub explain_course : FilterKind → List ℕ → BoundQuery → Option (L
 explain_course filter folder bound order =
     answered_course filter folder bound order (λ found. Ends (Ok (explain_text filter bound found.0 found.1)))
 
+-- how the answer was found, and the size and the hash of its text
+abbrev pub summary_text : FilterKind → BoundQuery → List Rows → Plan → List ℕ
+summary_text filter bound tables plan = explain_text filter bound tables plan ++ size_lines (answer_text bound tables)
+
+-- mode sample: it is answered in the same way, and both are written
+abbrev pub summary_course : FilterKind → List ℕ → BoundQuery → Option (List ℕ) → Course
+summary_course filter folder bound order =
+    answered_course filter folder bound order (λ found. Ends (Ok (summary_text filter bound found.0 found.1)))
+
 -- mode check: how the query is answered is reported, with all sizes 0, since no table is read
 abbrev pub check_course : BoundQuery → Option (List ℕ) → Course
 check_course bound order =
@@ -124,20 +136,34 @@ abbrev pub mode_course : Mode → FilterKind → List ℕ → BoundQuery → Opt
 mode_course mode.Run filter folder bound order = run_course filter folder bound order
 mode_course mode.Explain filter folder bound order = explain_course filter folder bound order
 mode_course mode.Check filter folder bound order = check_course bound order
-
--- the filters that a command asks for: exact ones
-abbrev pub filter_of : Command → FilterKind
-filter_of command = filter_kind.Exact
+mode_course mode.Sample filter folder bound order = summary_course filter folder bound order
 
 -- a bound query is prepared with the order that is given, and answered in the command's mode
 abbrev pub query_course : Command → Query → Course
 query_course command query =
     Finds (Preparing query command.order command.force) (λ found.
-    mode_course command.mode (filter_of command) command.folder (record { query = query; known = found.known }) found.order)
+    mode_course command.mode command.filter command.folder (record { query = query; known = found.known }) found.order)
 
--- the script comes first, and what it is bound to
+-- the script's file comes first, and what it is bound to
+abbrev pub files_course : Command → Course
+files_course command = script_course command.script (query_course command)
+
+-- the number of a sample, where the words are a command of that mode
+abbrev pub number_of : Command → ℕ
+number_of command = unwrap_or (sample_number command.script) 0
+
+-- a sample's script is answered over its tables, and no file is asked for
+abbrev pub sample_course : Command → Course
+sample_course command =
+    over_files (file_bytes command.folder (sample_tables (number_of command))) (bytes_course sample_script (query_course command))
+
+-- whether a mode's script and tables are made
+abbrev pub is_made : Mode → Bool
+is_made mode.Sample = true
+is_made other = false
+
 abbrev pub command_course : Command → Course
-command_course command = script_course command.script (query_course command)
+command_course command = if is_made command.mode then sample_course command else files_course command
 
 -- words that are no command end the course at once
 abbrev pub course_of : Option Command → Course

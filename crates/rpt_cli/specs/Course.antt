@@ -53,3 +53,9 @@ NoneRose told before now (Asks name next) =
     (now name < min (before name + 1) (2 ^ 64 - 1)) × IfSome (told name) (λ bytes. NoneRose told before now (next bytes))
 NoneRose told before now (Finds matter next) =
     (found : Result (Found matter) Refusal) × IsFound matter found × MatchResult found (λ x. NoneRose told before now (next x)) (λ e. ⊤)
+
+-- The course over files that have these contents: it asks for none.
+unfoldable pub over_files : (List ℕ → List ℕ) → Course → Course
+over_files contents (Ends answer) = Ends answer
+over_files contents (Asks name next) = over_files contents (next (contents name))
+over_files contents (Finds matter next) = Finds matter (λ found. over_files contents (next found))

@@ -12,7 +12,7 @@ use Rattle.rpt_engine.specs.Planned.{IsPlan}
 use Rattle.rpt_engine.specs.Prepared.{IsAccepted}
 use Rattle.rpt_engine.specs.declared.planning.Plan.{Plan}
 use Rattle.command_words.specs.declared.words.Command.{Command}
-use Rattle.rpt_cli.specs.Command.{counts_in, explain_text, filter_of, query_of_script}
+use Rattle.rpt_cli.specs.Command.{counts_in, explain_text, query_of_script}
 use Rattle.rpt_cli.specs.Matters.{IsPrepared}
 use Rattle.rpt_cli.specs.Scripts.{IsScript}
 use Rattle.rpt_cli.specs.Tables.{table_file, table_of}
@@ -46,7 +46,7 @@ pub record IsExplained (told : List ℕ → Option (List ℕ)) (command : Comman
   pub tables : List Rows
   pub plan : Plan
   pub run : IsRunOf told command bound tables plan
-  pub text_is : text ≡ explain_text (filter_of command) bound tables plan
-  pub full : filter_of command ≡ filter_kind.Exact → AreAnswerRows bound tables (joined_rows (filter_of command) bound tables plan)
-  pub bounded : filter_of command ≡ filter_kind.Exact → IsAccepted bound.known.sets plan.order
-      → All (λ count. count ≤ answer_count bound tables) (counts_in (filter_of command) bound tables plan).prefixes
+  pub text_is : text ≡ explain_text command.filter bound tables plan
+  pub full : command.filter ≡ filter_kind.Exact → AreAnswerRows bound tables (joined_rows command.filter bound tables plan)
+  pub bounded : command.filter ≡ filter_kind.Exact → IsAccepted bound.known.sets plan.order
+      → All (λ count. count ≤ answer_count bound tables) (counts_in command.filter bound tables plan).prefixes

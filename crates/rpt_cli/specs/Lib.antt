@@ -1,3 +1,4 @@
+pub mod Sample
 pub mod Scripts
 pub mod Orders
 pub mod Matters

@@ -44,8 +44,8 @@ pub(crate) fn explain<R: Threads + Sync, F: Files, G: Gate + Sync>(
     }
 }
 
-// The report of an outcome.
-fn explain_text(
+/// The report of an outcome.
+pub(crate) fn explain_text(
     alloc: Global,
     ready: &Ready,
     tables: &[Table],

@@ -11,12 +11,15 @@ mod deliver;
 mod explain;
 mod fetch;
 mod joins;
+mod modes;
 mod orders;
 mod query;
 mod ready;
 mod reply;
 mod reports;
 mod run;
+mod sample;
+mod summary;
 mod tables;
 
 pub use command::run_command;

@@ -32,8 +32,8 @@ pub(crate) fn read_query<F: Files>(
     }
 }
 
-// The query that the bytes of a script ask for.
-fn query_in(alloc: Global, bytes: &[u8]) -> Result<Bound, Refusal>
+/// The query that the bytes of a script ask for.
+pub(crate) fn query_in(alloc: Global, bytes: &[u8]) -> Result<Bound, Refusal>
     requires { length bytes.now ≤ MAX_SCRIPT_BYTES }
     ensures passes { IfOk result (λ bound. PassesUnasked (bytes_course bytes.now) bound.query) }
     ensures refused { IfErr result (λ e. StopsUnasked (bytes_course bytes.now) e) }

@@ -1,6 +1,6 @@
 // A query that is ready to be answered, in the order that is given.
 ghost use Rattle.std.specs.Prelude.{◌≡◌, ◌⊎◌, Err, IfErr, IfOk, Ok};
-ghost use Rattle.rpt_base.specs.declared.filters.FilterKind.TheVariants as filter_kind;
+ghost use Rattle.command_words.specs.Words.{IsWithinLimits};
 ghost use Rattle.refusal_lines.specs.declared.refusal.Refusal.TheVariants.{Memory};
 ghost use Rattle.rpt_engine.specs.Prepared.{IsReady};
 ghost use Rattle.rpt_cli.specs.Matters.{IsPrepared};
@@ -8,15 +8,10 @@ ghost use Rattle.rpt_cli.specs.Steps.{why_unprepared};
 
 use crate::orders::order_of;
 use binder::Bound;
+use command_words::Command;
 use refusal_lines::Refusal;
-use rpt_base::{FilterKind, Str};
 use rpt_engine::{Options, PrepareError, Prepared, allow, prepare};
 use std::alloc::Global;
-
-// How a query is answered where the words say nothing else.
-const WORKERS: u32 = 4;
-
-const MORSEL: u32 = 1024;
 
 /// What each mode starts from.
 #[derive(Drop)]
@@ -26,26 +21,23 @@ pub(crate) struct Ready {
     pub(crate) options: Options,
 }
 
-/// Prepares a query. It is refused where it has no join list, then where the order's pieces aren't its relations, and then where
-/// the order isn't accepted.
-pub(crate) fn make_ready(
-    alloc: Global,
-    bound: Bound,
-    order: &Option<Str>,
-    force: bool,
-) -> Result<Ready, Refusal>
+/// Prepares a query, which is answered as the command says. It is refused where it has no join list, then where the order's pieces
+/// aren't its relations, and then where the order isn't accepted.
+pub(crate) fn make_ready(alloc: Global, bound: Bound, command: &Command) -> Result<Ready, Refusal>
+    requires fits { IsWithinLimits command.now }
     ensures bound { IfOk result (λ ready. ready.bound ≡ bound) }
     ensures ready { IfOk result (λ ready. IsReady ready.bound ready.prepared ready.options) }
-    ensures filter { IfOk result (λ ready. ready.options.filter ≡ filter_kind.Exact) }
-    ensures found { IfOk result (λ ready. IsPrepared bound.query order.now force (Ok (record { known = bound.known; order = ready.options.order }))) }
-    ensures refused { IfErr result (λ e. (e ≡ Memory) ⊎ IsPrepared bound.query order.now force (Err e)) }
+    ensures filter { IfOk result (λ ready. ready.options.filter ≡ command.now.filter) }
+    ensures found { IfOk result (λ ready. IsPrepared bound.query command.now.order command.now.force
+        (Ok (record { known = bound.known; order = ready.options.order }))) }
+    ensures refused { IfErr result (λ e. (e ≡ Memory) ⊎ IsPrepared bound.query command.now.order command.now.force (Err e)) }
 {
     let mut options = Options {
-        filter: FilterKind::Exact,
-        workers: WORKERS,
-        morsel: MORSEL,
+        filter: command.filter,
+        workers: command.workers,
+        morsel: command.morsel,
         order: None,
-        force,
+        force: command.force,
     };
     // What the variables are is told with their sets.
     let _sets = bound.var_sets();
@@ -54,11 +46,11 @@ pub(crate) fn make_ready(
         Ok(prepared) => prepared,
         Err(error) => return Err(refusal_of(error)),
     };
-    let given = match order_of(alloc, &bound, order) {
+    let given = match order_of(alloc, &bound, &command.order) {
         Ok(given) => given,
         Err(refusal) => return Err(refusal),
     };
-    if let Err(error) = allow(alloc, &prepared, &given, force) {
+    if let Err(error) = allow(alloc, &prepared, &given, command.force) {
         return Err(refusal_of(error));
     }
     options.order = given;

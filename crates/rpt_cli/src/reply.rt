@@ -1,16 +1,13 @@
 // What the program replies to the words of a command line: a text, or a refusal.
 ghost use Rattle.rpt_outside.specs.Whole.{bytes_of};
-ghost use Rattle.command_words.specs.Words.{words_of};
+ghost use Rattle.command_words.specs.Words.{IsWithinLimits, words_of};
 ghost use Rattle.rpt_cli.specs.Course.{Gives};
-ghost use Rattle.rpt_cli.specs.Command.{command_course, course, filter_of, mode_course};
-ghost use Rattle.rpt_engine.specs.Prepared.{IsReady};
+ghost use Rattle.rpt_cli.specs.Command.{command_course, course, files_course, is_made};
 ghost use Rattle.std.specs.Prelude.{◌≡◌};
 
-use crate::check::check;
-use crate::explain::explain;
+use crate::modes::answer_bound;
 use crate::query::read_query;
-use crate::ready::{Ready, make_ready};
-use crate::run::run;
+use crate::sample::answer_sample;
 use command_words::{Command, Mode, WordsError, read_words};
 use refusal_lines::Refusal;
 use rpt_outside::{Files, Gate};
@@ -34,7 +31,7 @@ pub(crate) fn reply_to<R: Threads + Sync, F: Files, G: Gate + Sync>(
     }
 }
 
-// Reads the command's query, prepares it, and answers it in the command's mode.
+// Answers a command: from files, or over a sample, which is made.
 fn follow<R: Threads + Sync, F: Files, G: Gate + Sync>(
     rt: &R,
     alloc: Global,
@@ -42,36 +39,39 @@ fn follow<R: Threads + Sync, F: Files, G: Gate + Sync>(
     files: &mut F,
     gate: &G,
 ) -> Result<Vec<u8>, Refusal>
+    requires fits { IsWithinLimits command.now }
     ensures { Gives (F.contents files.old) (F.faults files.old) (F.faults files.new) (command_course command.now) (bytes_of result) }
 {
-    let bound = match read_query(alloc, files, &command.script) {
-        Ok(bound) => bound,
-        Err(refusal) => return Err(refusal),
-    };
-    let ready = match make_ready(alloc, bound, &command.order, command.force) {
-        Ok(ready) => ready,
-        Err(refusal) => return Err(refusal),
-    };
-    in_mode(rt, alloc, command, &ready, files, gate)
+    if is_made(command.mode) {
+        answer_sample(rt, alloc, command, gate)
+    } else {
+        answer_files(rt, alloc, command, files, gate)
+    }
 }
 
-// Answers a query that is ready, in the command's mode.
-fn in_mode<R: Threads + Sync, F: Files, G: Gate + Sync>(
+// Whether a mode's script and tables are made.
+fn is_made(mode: Mode) -> bool
+    ensures { result ≡ is_made mode }
+{
+    match mode {
+        Mode::Sample => true,
+        Mode::Run | Mode::Explain | Mode::Check => false,
+    }
+}
+
+// Reads the script's file, and answers its query.
+fn answer_files<R: Threads + Sync, F: Files, G: Gate + Sync>(
     rt: &R,
     alloc: Global,
     command: &Command,
-    ready: &Ready,
     files: &mut F,
     gate: &G,
 ) -> Result<Vec<u8>, Refusal>
-    requires ready { IsReady ready.now.bound ready.now.prepared ready.now.options }
-    requires filter { ready.now.options.filter ≡ filter_of command.now }
-    ensures { Gives (F.contents files.old) (F.faults files.old) (F.faults files.new)
-        (mode_course command.now.mode (filter_of command.now) command.now.folder ready.now.bound ready.now.options.order) (bytes_of result) }
+    requires fits { IsWithinLimits command.now }
+    ensures { Gives (F.contents files.old) (F.faults files.old) (F.faults files.new) (files_course command.now) (bytes_of result) }
 {
-    match command.mode {
-        Mode::Run => run(rt, alloc, ready, &command.folder, files, gate),
-        Mode::Explain => explain(rt, alloc, ready, &command.folder, files, gate),
-        Mode::Check => check(alloc, ready),
+    match read_query(alloc, files, &command.script) {
+        Ok(bound) => answer_bound(rt, alloc, command, bound, files, gate),
+        Err(refusal) => Err(refusal),
     }
 }

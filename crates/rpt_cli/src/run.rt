@@ -43,8 +43,8 @@ pub(crate) fn run<R: Threads + Sync, F: Files, G: Gate + Sync>(
     }
 }
 
-// The text of the tuples of all relations, however they were joined.
-fn answer_text<R: Threads + Sync>(
+/// The text of the tuples of all relations, however they were joined.
+pub(crate) fn answer_text<R: Threads + Sync>(
     rt: &R,
     alloc: Global,
     bound: &Bound,

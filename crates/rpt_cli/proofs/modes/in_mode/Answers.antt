@@ -1,9 +1,9 @@
 use Rattle.std.proofs.Common.{subst, sym}
 use Rattle.command_words.specs.declared.words.Mode.{Mode}
 use Rattle.rpt_outside.specs.Whole.{bytes_of}
-use Rattle.rpt_cli.specs.Command.{filter_of, mode_course}
+use Rattle.rpt_cli.specs.Command.{mode_course}
 use Rattle.rpt_cli.specs.Course.{Gives}
-use Rattle.rpt_cli.proofs.reply.in_mode.Goals as goal
+use Rattle.rpt_cli.proofs.modes.in_mode.Goals as goal
 
 pub returns-in-Check : goal.returns-in-Check
 returns-in-Check g c =
@@ -11,5 +11,5 @@ returns-in-Check g c =
     let now = g.F.Files.faults c.args.files.now in
     let command = c.args.command.now in
     let ready = c.args.ready.now in
-    subst (λ (m : Mode). Gives told now now (mode_course m (filter_of command) command.folder ready.bound ready.options.order) (bytes_of c.check.result)) (sym c.in-Check.is)
+    subst (λ (m : Mode). Gives told now now (mode_course m command.filter command.folder ready.bound ready.options.order) (bytes_of c.check.result)) (sym c.in-Check.is)
     (c.check.ensures told now now)
