@@ -6,6 +6,7 @@
 mod builds;
 mod codes;
 mod counts;
+mod hashing;
 mod orders;
 mod pushes;
 mod tables;
@@ -25,6 +26,12 @@ pub fn put_given<R: Threads + Sync>(
     match case.word.as_str() {
         "build" => builds::put_build(rt, alloc, case, given),
         "codes" => codes::put_codes(alloc, case, given),
+        "fnv" => {
+            hashing::put_fnv(head, given);
+            Ok(())
+        }
+        "mix" => hashing::put_mix(head, given),
+        "hashes" => hashing::put_hashes(alloc, case, given),
         "push_one" => pushes::put_run(rt, alloc, head, &case.entries, given),
         "add_counts" => counts::put_sum(head, given),
         _ => Err(CaseError::Word),

@@ -3,7 +3,7 @@ ghost use Rattle.std.specs.Prelude.{◌≡◌, ◌∷◌, ℕ, ◌<◌, ◌≤�
 ghost use Rattle.exact_filter.specs.Exact.{row_places};
 ghost use Rattle.join_graph.specs.JoinList.{Extends, HasParents, has, listed_by};
 ghost use Rattle.rpt_engine.specs.Places.{places_of};
-ghost use Rattle.transfer_core.specs.Plans.{IsMorsel, IsValid, shape_of};
+ghost use Rattle.transfer_core.specs.Plans.{IsValid, shape_of};
 ghost use Rattle.transfer_plan.specs.Kept.{CanTell, item_count, sealed_run};
 ghost use Rattle.transfer_plan.specs.TransferPlan.{AreEdges, AreParts, ServesLink, seen_edge};
 
@@ -11,10 +11,10 @@ use case_text::CaseError;
 use exact_filter::RowPlaces;
 use join_graph::{Link, Tree};
 use key_codes::Placement;
+use rpt_base::limits::is_morsel;
 use rpt_engine::AnyPlace;
 use std::alloc::Global;
 use transfer_core::Plan;
-use transfer_core::limits::{MAX_MORSEL, MIN_MORSEL};
 use transfer_plan::{Edge, plan_of};
 
 /// The plan of a tree, if one can be made of these parts.
@@ -56,12 +56,6 @@ fn check_parts(
         return Ok(());
     }
     Err(CaseError::Range)
-}
-
-fn is_morsel(size: u32) -> bool
-    ensures { IsTrue result → IsMorsel size }
-{
-    size >= MIN_MORSEL && size <= MAX_MORSEL && size % MIN_MORSEL == 0
 }
 
 // Finds that a tree lists each of so many relations, and each but the root behind its parent.

@@ -18,7 +18,8 @@ pub fn put_place(head: &str, given: &mut String) -> Result<(), CaseError> {
     Ok(())
 }
 
-fn hash_of(word: Option<&str>) -> Result<u64, CaseError> {
+/// The hash that a word writes.
+pub fn hash_of(word: Option<&str>) -> Result<u64, CaseError> {
     match word {
         Some(word) => word.parse::<u64>().map_err(|_| CaseError::Number),
         None => Err(CaseError::Number),

@@ -1,6 +1,8 @@
 // Plans of pipes, as they are written.
 ghost use Rattle.std.specs.Prelude.{◌<◌, All, IsTrue};
 
+use crate::places::hash_of;
+use bloom_block::Bloom;
 use case_text::{CaseError, Entry, number_of, numbers_of};
 use exact_filter::{Exact, RowPlaces};
 use rpt_base::Listed;
@@ -17,7 +19,7 @@ struct Draft {
     pipes: Vec<Pipe>,
 }
 
-/// The plan that lines write: `morsel N`, `words N ..` of each region, for each placement `rows ITEMS` or `codes COUNT CODE ..`, and for
+/// The plan that lines write: `morsel N`, `words N ..` of each region, for each placement `rows ITEMS`, `codes COUNT CODE ..` or `hashes HASH ..`, and for
 /// each pipe `pipe ITEMS` and behind it `reads` and `writes` with a region and a placement for each port. Other lines say nothing of it.
 pub fn plan_of(alloc: Global, entries: &[Entry]) -> Result<Plan<AnyPlace>, CaseError> {
     let mut draft = Draft {
@@ -50,6 +52,7 @@ impl Draft {
             "words" => self.words = numbers_of(alloc, rest)?,
             "rows" => self.add_places(AnyPlace::Rows(RowPlaces::new(number_of(Some(rest))?)))?,
             "codes" => self.add_codes(alloc, rest)?,
+            "hashes" => self.add_places(places_by_hashes(alloc, rest)?)?,
             "pipe" => self.add_pipe(alloc, number_of(Some(rest))?)?,
             "reads" => self.set_reads(ports_of(alloc, rest)?),
             "writes" => self.set_writes(ports_of(alloc, rest)?),
@@ -98,6 +101,18 @@ pub fn places_by(alloc: Global, count: u32, codes: &str) -> Result<AnyPlace, Cas
         return Err(CaseError::Range);
     }
     Ok(AnyPlace::Exact(Exact::new(codes, count)))
+}
+
+// The places of items by these hashes.
+fn places_by_hashes(alloc: Global, rest: &str) -> Result<AnyPlace, CaseError> {
+    let mut hashes = Vec::new(alloc);
+    for hash in rest.split_whitespace() {
+        hashes.push(hash_of(Some(hash))?)?;
+    }
+    if hashes.len() > 1000 {
+        return Err(CaseError::Range);
+    }
+    Ok(AnyPlace::Bloom(Bloom::new(hashes)))
 }
 
 fn are_below(codes: &[u32], count: u32) -> bool
