@@ -1,7 +1,8 @@
 #!/usr/bin/env python3
 """Times `rpt run` over tables that it makes: python3 bench/joins.py PROGRAM [ROWS]
 
-Each query is run three times; the least wall time and the greatest resident memory are printed, and how long the output is.
+Each query is run three times with filters of each kind; the least wall time and the greatest resident memory are printed, how long
+the output is, and how many rows of all relations the filters keep.
 ROWS, 1,000,000 where it isn't given, is how many rows the greatest table has. The numbers are drawn from one seed, so that two
 builds of the program answer the same queries.
 
@@ -9,7 +10,7 @@ star      a table of ROWS rows and three of a thousandth of that, each joined to
 chain     three tables of ROWS / 2 rows in a row, joined by keys that are drawn from ROWS / 2 numbers
 filtered  the same chain, where a condition leaves a hundredth of the last table's rows
 skewed    a chain of three whose neighbours share one key in 20,000 rows each, and whose ends have no key in common: the joins
-          of neighbours have 400,000,000 tuples, and the answer has none
+          of neighbours have 400,000,000 tuples, and the answer has none; it isn't run without filters
 """
 import os
 import random
@@ -77,6 +78,12 @@ def timed(words):
     return time.monotonic() - begun, used.ru_maxrss // 1024, length
 
 
+def reduced(words):
+    """Returns how many rows of all relations the filters keep, by the report of the program."""
+    report = subprocess.run(words, stdout=subprocess.PIPE, check=True).stdout
+    return sum(int(line.split()[-1]) for line in report.splitlines() if line.startswith(b"relation "))
+
+
 def main():
     program, rows = os.path.abspath(sys.argv[1]), int(sys.argv[2]) if len(sys.argv) > 2 else 1_000_000
     resource.setrlimit(resource.RLIMIT_CORE, (0, 0))
@@ -85,9 +92,12 @@ def main():
             script = make(folder, rows, random.Random(1).randrange)
             with open(f"{folder}/query.sql", "w", encoding="ascii") as file:
                 file.write(script)
-            runs = [timed([program, "run", f"{folder}/query.sql", folder]) for _ in range(3)]
-        least, most = min(it[0] for it in runs), max(it[1] for it in runs)
-        print(f"{make.__name__:9} {least:7.2f} s {most:6} MiB {runs[0][2]:12} bytes", flush=True)
+            for kind in ("exact", "bloom") if make is skewed else ("exact", "bloom", "none"):
+                words = [f"{folder}/query.sql", folder, "--filter", kind]
+                runs = [timed([program, "run", *words]) for _ in range(3)]
+                least, most = min(it[0] for it in runs), max(it[1] for it in runs)
+                kept = reduced([program, "explain", *words])
+                print(f"{make.__name__:9} {kind:6} {least:7.2f} s {most:6} MiB {runs[0][2]:12} bytes {kept:9} rows", flush=True)
 
 
 if __name__ == "__main__":
