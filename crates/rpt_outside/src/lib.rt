@@ -8,6 +8,7 @@
 
 mod folder;
 mod held_files;
+mod meet_gate;
 mod memory_files;
 mod memory_sink;
 mod stream;
@@ -16,6 +17,7 @@ mod whole;
 
 pub use folder::FolderFiles;
 pub use held_files::HeldFiles;
+pub use meet_gate::MeetGate;
 pub use memory_files::MemoryFiles;
 pub use memory_sink::MemorySink;
 pub use stream::StreamSink;

@@ -1,0 +1,6 @@
+mod Drawn
+pub mod FirstHands
+mod HandFacts
+mod ListedFacts
+mod MorselFacts
+mod PlanFacts
