@@ -66,7 +66,7 @@ fn put_given<R: Files + Threads + Sync + Copy + Drop>(
         "graphs" => graph_calls::put_given(alloc, case, given),
         "tables" => table_calls::put_given(alloc, case, given),
         "builds" => build_calls::put_given(&rt, alloc, case, given),
-        "transfers" => transfer_calls::put_given(alloc, case, given),
+        "transfers" => transfer_calls::put_given(&rt, alloc, case, given),
         "outside" => outside_calls::put_given(rt, alloc, case, given),
         _ => Err(CaseError::Word),
     }

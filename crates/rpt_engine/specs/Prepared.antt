@@ -1,6 +1,6 @@
 -- When a query can be answered along an order.
 use Rattle.std.specs.Prelude.{◌≡◌, ℕ, ◌≤◌, Bool, true, false, IfSome, List, length, Option, None, Some, ⊤}
-use Rattle.rpt_base.specs.Limits.{IsMorsel}
+use Rattle.rpt_base.specs.Limits.{AreWorkers, IsMorsel}
 use Rattle.bound_query.specs.Query.{BoundQuery}
 use Rattle.join_graph.specs.JoinList.{IsAcyclic}
 use Rattle.join_graph.specs.SafeSet.{IsSafe}
@@ -33,10 +33,11 @@ IsUnprepared vs order force (Cyclic best needed) = IsCyclic vs best needed
 IsUnprepared vs order force (UnsafeOrder prefix) = IsAcyclic vs × IsUnsafeAt vs order force prefix
 IsUnprepared vs order force Memory = Unit {0}
 
--- what an answer rests on: the graph is the query's, which has a join list, an order that is given has each relation once, and a
--- morsel is one that a plan can have
+-- what an answer rests on: the graph is the query's, which has a join list, an order that is given has each relation once, and the
+-- workers and the morsel are within their limits
 pub record IsReady (bound : BoundQuery) (prepared : Prepared) (options : Options) : Type 0 where
   pub graph : prepared.graph ≡ bound.known.sets
   pub acyclic : IsAcyclic bound.known.sets
   pub order : IfSome options.order (λ order. IsOrder (length bound.known.sets) order)
+  pub workers : AreWorkers options.workers
   pub morsel : IsMorsel options.morsel

@@ -2,12 +2,15 @@
 ghost use Rattle.std.specs.Prelude.{◌≤◌};
 ghost use Rattle.transfer_plan.specs.Kept.{CanTell, item_count};
 
+use crate::boards::run_of;
 use crate::parts::planned;
 use crate::trees::Parts;
 use case_text::{CaseError, put};
+use rpt_base::limits::are_workers;
 use std::alloc::Global;
+use std::thread::Threads;
 use transfer_core::Port;
-use transfer_pass::{TransferRun, run_one};
+use transfer_pass::TransferRun;
 
 /// Puts the words of a plan's regions, and each pipe in a line.
 pub fn put_tree(alloc: Global, parts: Parts, given: &mut String) -> Result<(), CaseError> {
@@ -16,6 +19,7 @@ pub fn put_tree(alloc: Global, parts: Parts, given: &mut String) -> Result<(), C
         items,
         edges,
         morsel,
+        workers: _,
     } = parts;
     let plan = planned(alloc, &tree, &items, edges, morsel)?;
     let words = plan.words.as_slice();
@@ -37,15 +41,24 @@ fn put_ports(ports: &[Port], given: &mut String) {
 }
 
 /// Puts the items of each relation that a run of the plan keeps.
-pub fn put_kept(alloc: Global, parts: Parts, given: &mut String) -> Result<(), CaseError> {
+pub fn put_kept<R: Threads + Sync>(
+    rt: &R,
+    alloc: Global,
+    parts: Parts,
+    given: &mut String,
+) -> Result<(), CaseError> {
     let Parts {
         tree,
         items,
         edges,
         morsel,
+        workers,
     } = parts;
+    if !are_workers(workers) {
+        return Err(CaseError::Range);
+    }
     let plan = planned(alloc, &tree, &items, edges, morsel)?;
-    let run = run_one(alloc, plan)?;
+    let run = run_of(rt, alloc, plan, workers)?;
     for relation in 0..items.len() {
         put_relation(&run, relation as u32, items[relation], given);
     }

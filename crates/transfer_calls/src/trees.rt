@@ -7,23 +7,25 @@ use rpt_engine::AnyPlace;
 use std::alloc::Global;
 use transfer_plan::Edge;
 
-/// A tree, the items of each relation, an edge for each link or none at all, and the items of a morsel.
+/// A tree, the items of each relation, an edge for each link or none at all, the items of a morsel, and how many workers run its plan.
 #[derive(Drop)]
 pub struct Parts {
     pub tree: Tree,
     pub items: Vec<u32>,
     pub edges: Vec<Edge<AnyPlace>>,
     pub morsel: u32,
+    pub workers: u32,
 }
 
-/// What a case writes: the tree behind the call's word, as `0 1>0 2>1`, and then lines `morsel N`, `items N ..` of each relation, and for
-/// each link `edge COUNT: CODE .. / CODE ..`, the child's codes and the parent's.
+/// What a case writes: the tree behind the call's word, as `0 1>0 2>1`, and then lines `morsel N`, `items N ..` of each relation, `workers N` if
+/// there are more than one, and for each link `edge COUNT: CODE .. / CODE ..`, the child's codes and the parent's.
 pub fn parts_of(alloc: Global, case: &Case) -> Result<Parts, CaseError> {
     let mut parts = Parts {
         tree: tree_of(alloc, case.head.as_str())?,
         items: Vec::new(alloc),
         edges: Vec::new(alloc),
         morsel: 0,
+        workers: 1,
     };
     for entry in &case.entries {
         parts.take(alloc, entry.word.as_str(), entry.rest.as_str())?;
@@ -35,6 +37,7 @@ impl Parts {
     fn take(&mut self, alloc: Global, word: &str, rest: &str) -> Result<(), CaseError> {
         match word {
             "morsel" => self.morsel = number_of(Some(rest))?,
+            "workers" => self.workers = number_of(Some(rest))?,
             "items" => self.items = numbers_of(alloc, rest)?,
             "edge" => self.edges.push(edge_of(alloc, rest)?)?,
             _ => return Err(CaseError::Word),

@@ -1,0 +1,72 @@
+// Plans that are run on a board.
+ghost use Rattle.std.specs.Prelude.{◌≡◌, IfOk};
+ghost use Rattle.rpt_base.specs.Limits.{AreWorkers};
+ghost use Rattle.rpt_engine.specs.Places.{places_of};
+ghost use Rattle.transfer_core.specs.Plans.{IsValid, shape_of};
+ghost use Rattle.transfer_plan.specs.Kept.{sealed_run};
+
+use crate::plans::plan_of;
+use case_text::{Case, CaseError, number_of, put};
+use filter_board::Board;
+use rpt_base::limits::are_workers;
+use rpt_engine::AnyPlace;
+use rpt_outside::OpenGate;
+use std::alloc::Global;
+use std::thread::Threads;
+use transfer_core::{Plan, valid};
+use transfer_pass::{TransferRun, run};
+
+/// Puts the words of the regions that so many workers seal, where each of so many runs seals the same.
+pub fn put_board<R: Threads + Sync>(
+    rt: &R,
+    alloc: Global,
+    case: &Case,
+    given: &mut String,
+) -> Result<(), CaseError> {
+    let mut head = case.head.split_whitespace();
+    let workers = number_of(head.next())?;
+    let times = number_of(head.next())?;
+    let mut first = String::new(alloc);
+    for time in 0..times {
+        let text = sealed_text(rt, alloc, plan_of(alloc, &case.entries)?, workers)?;
+        if time == 0 {
+            first = text;
+        } else if text.as_bytes() != first.as_bytes() {
+            put(given, format_args!("run {time} differs\n"));
+        }
+    }
+    put(given, first.as_str());
+    Ok(())
+}
+
+fn sealed_text<R: Threads + Sync>(
+    rt: &R,
+    alloc: Global,
+    plan: Plan<AnyPlace>,
+    workers: u32,
+) -> Result<String, CaseError> {
+    if !valid(&plan) || !are_workers(workers) {
+        return Err(CaseError::Range);
+    }
+    let run = run_of(rt, alloc, plan, workers)?;
+    let sealed = run.sealed();
+    let text = format!(in alloc; "{sealed:?}\n")?;
+    Ok(text)
+}
+
+/// The run of a plan by so many workers.
+pub fn run_of<R: Threads + Sync>(
+    rt: &R,
+    alloc: Global,
+    plan: Plan<AnyPlace>,
+    workers: u32,
+) -> Result<TransferRun, CaseError>
+    requires valid { IsValid (shape_of places_of plan) }
+    requires workers { AreWorkers workers }
+    ensures { IfOk result (λ run. run ≡ sealed_run (shape_of places_of plan)) }
+{
+    match Board::make(alloc, plan, workers) {
+        Ok((board, hands)) => Ok(run(rt, board, hands, &OpenGate)),
+        Err(_) => Err(CaseError::Memory),
+    }
+}
