@@ -12,11 +12,11 @@ use Rattle.transfer_core.specs.Steps.{ListsAllPuts}
 use Rattle.filter_board.specs.declared.share.Share.{Share}
 use Rattle.filter_board.specs.Layout.{done_of, index_of, word_count}
 use Rattle.filter_board.specs.Rule.{IsSoundBoard}
-use Rattle.filter_board.specs.Shares.{HasFinishedBelow, HasFinishedOnce, IsTold, after_draw, after_finish, after_look, after_put, fresh, joined, less, piece, spent}
+use Rattle.filter_board.specs.Shares.{HasFinishedBelow, HasFinishedOnce, IsTold, after_draw, after_find, after_finish, after_look, after_put, fresh, joined, less, piece, spent}
 use Rattle.filter_board.proofs.DrawFacts.{draw_rises, draw_room, sound_drawn}
 use Rattle.filter_board.proofs.FinishFacts.{finish_room, sound_finished}
 use Rattle.filter_board.proofs.LookFacts.{alone_full, sealed_seen, sound_looked, sound_same, stands_once}
-use Rattle.filter_board.proofs.PutFacts.{sound_put}
+use Rattle.filter_board.proofs.PutFacts.{sound_found, sound_put}
 use Rattle.filter_board.proofs.ShareFacts.{sound_join, sound_split, sound_start}
 
 abbrev Kept : Shape → ℕ → State (Unit {0}) Share → Type 0
@@ -49,6 +49,13 @@ module _ (s : Shape) (R : IsRight (job_of s)) (parts : ℕ) where
   puts : (n id : ℕ) (me : Seat) (p i q : ℕ) → Holds me.0.actor p (i / s.morsel) → IsPassing (job_of s) p i q → 0 < me.0.parts
       → Allows (Kept s parts) n id me (index_of s ((job_of s).region p q) ((job_of s).word p i q)) (λ w. bit_or w ((job_of s).mask p i q)) (λ r after. after ≡ (after_put i q me.0, me.1))
   puts n id me p i q held item part t f wide at _ = (after_put i q me.0, keeps, tt, sound_put s R parts t.words t.views f id me.0 at p i q held item part, refl)
+
+  finds : (n id : ℕ) (me : Seat) (p i q : ℕ) → Holds me.0.actor p (i / s.morsel) → IsPassing (job_of s) p i q → 0 < me.0.parts
+      → Allows (Kept s parts) n id me (index_of s ((job_of s).region p q) ((job_of s).word p i q)) (λ w. w) (λ r after. after ≡ (after_find i q ((job_of s).mask p i q) me.0 r, me.1))
+  finds n id me p i q held item part t f wide at _ =
+      let c : ℕ = index_of s ((job_of s).region p q) ((job_of s).word p i q) in
+      let h : Share = after_find i q ((job_of s).mask p i q) me.0 (get_or t.words c 0) in
+      (h, keeps, tt, unmoved s parts t c id h (sound_found s R parts t.words t.views f id me.0 at p i q held item part), refl)
 
   finishes : (n id : ℕ) (me : Seat) (p m : ℕ) → (job_of s).morsels p < 2 ^ 32 → Holds me.0.actor p m → 0 < me.0.parts → ListsAllPuts (job_of s) p m me.0.actor
       → Allows (Kept s parts) n id me (length s.pipes + p) (λ i. (i + 1) % 2 ^ 64) (λ r after. after ≡ (after_finish me.0, me.1))
@@ -96,6 +103,12 @@ module _ (a b : Shape) (m n : ℕ) (R : IsRight (job_of b)) (same : a ≡ b) (pa
   puts_as slots id me p i q at mask one two e h c d held item part =
       subst (λ (x : Shape × ℕ × ℕ × ℕ × ℕ × ℕ). Allows (Kept x.0 x.1) slots id me x.2 (λ w. bit_or w x.3) (λ r after. after ≡ (after_put x.4 x.5 me.0, me.1))) (λ y. (sym same y, sym parts y, sym c y, sym d y, sym e y, sym h y))
       (puts b R n slots id me p i q held item part)
+
+  pub finds_as : (slots id : ℕ) (me : Seat) (p i q at mask one two three : ℕ) → one ≡ i → two ≡ q → three ≡ mask → at ≡ index_of b ((job_of b).region p q) ((job_of b).word p i q) → mask ≡ (job_of b).mask p i q → Holds me.0.actor p (i / b.morsel) → IsPassing (job_of b) p i q → 0 < me.0.parts
+      → Allows (Kept a m) slots id me at (λ w. w) (λ r after. after ≡ (after_find one two three me.0 r, me.1))
+  finds_as slots id me p i q at mask one two three e h g c d held item part =
+      subst (λ (x : Shape × ℕ × ℕ × ℕ × ℕ × ℕ). Allows (Kept x.0 x.1) slots id me x.2 (λ w. w) (λ r after. after ≡ (after_find x.3 x.4 x.5 me.0 r, me.1))) (λ y. (sym same y, sym parts y, sym c y, sym e y, sym h y, sym (g ∙ d) y))
+      (finds b R n slots id me p i q held item part)
 
   pub finishes_as : (slots id : ℕ) (me : Seat) (p k at : ℕ) → at ≡ length b.pipes + p → (job_of b).morsels p < 2 ^ 32 → Holds me.0.actor p k → 0 < me.0.parts → ListsAllPuts (job_of b) p k me.0.actor
       → Allows (Kept a m) slots id me at (λ i. (i + 1) % 2 ^ 64) (λ r after. after ≡ (after_finish me.0, me.1))

@@ -1,6 +1,9 @@
 -- A put keeps a sound board.
 use Rattle.std.proofs.Common.{◌≡◌, ◌⊎◌, inl, inr, ⊎_elim, ℕ, ◌/◌, ◌<◌, ◌≤◌, List, [], ◌∷◌, ◌++◌, length, set, Bool, true, false, if◌then◌else◌, sym, refl, ap, ◌∙◌, subst, arith, length-set}
-use Rattle.std.specs.Prelude.{bit_or}
+use Rattle.std.specs.Prelude.{◌==◌, bit_and, bit_or}
+use Rattle.std.specs.Int.Bits.{or_add_and}
+use Rattle.std.proofs.lemmas.Bool.{cases_Bool, eqb-true}
+use Rattle.std.proofs.lemmas.List.{set-get_or}
 use mathlib.Core.Option.{some}
 use lib.ListN.{get_elem?}
 use Rattle.transfer_core.specs.Actors.{Holds, holding, is_listed}
@@ -13,7 +16,8 @@ use Rattle.transfer_core.proofs.Sums.{total-set}
 use Rattle.filter_board.specs.declared.share.Share.{Share}
 use Rattle.filter_board.specs.Layout.{done_of, drawn_of, index_of, regions_in}
 use Rattle.filter_board.specs.Rule.{IsSoundBoard, IsSoundShare, actors_of, told_parts}
-use Rattle.filter_board.specs.Shares.{after_put}
+use Rattle.filter_board.specs.Shares.{after_find, after_put}
+use Rattle.filter_board.proofs.LookFacts.{sound_same}
 use Rattle.filter_board.proofs.WordFacts.{actor_at, actors_set, agrees, grows, word_done, word_drawn, word_else, word_here}
 
 -- the puts that are listed then
@@ -58,3 +62,16 @@ module _ (s : Shape) (R : IsRight (job_of s)) (parts : ℕ) (ws : List ℕ) (hs 
     where
       same_drawn : (o : ℕ) → o < length s.pipes → drawn_of s ws o ≤ drawn_of s ns o
       same_drawn o l = omega (arith, word_drawn s ws f.sized r w new is o l)
+
+  -- where the word has the mask, the put leaves all words as they are
+  sound_listed : bit_and (regions_in s ws r w) ((job_of s).mask p i q) ≡ (job_of s).mask p i q → IsSoundBoard s parts ws (set hs id putter)
+  sound_listed has =
+      let same : new ≡ regions_in s ws r w = omega (arith, or_add_and (regions_in s ws r w) ((job_of s).mask p i q), has) in
+      subst (λ (l : List ℕ). IsSoundBoard s parts l (set hs id putter)) (ap (set ws (index_of s r w)) same ∙ set-get_or ws (index_of s r w) 0) sound_put
+
+  -- a look that lists the put where the word has the mask
+  pub sound_found : IsSoundBoard s parts ws (set hs id (after_find i q ((job_of s).mask p i q) h (regions_in s ws r w)))
+  sound_found = elim (cases_Bool (bit_and (regions_in s ws r w) ((job_of s).mask p i q) == (job_of s).mask p i q)) [
+    | inl has ↦ subst (λ b. IsSoundBoard s parts ws (set hs id (if b then after_put i q h else h))) (sym has) (sound_listed (eqb-true _ _ has))
+    | inr lacks ↦ subst (λ b. IsSoundBoard s parts ws (set hs id (if b then after_put i q h else h))) (sym lacks) (sound_same s R parts ws hs f id h at)
+  ]

@@ -1,5 +1,5 @@
 -- What hands have of their board, and what steps change of it.
-use Rattle.std.specs.Prelude.{◌≡◌, ℕ, ◌+◌, ◌-◌, ◌*◌, ◌^◌, ◌<◌, ◌≤◌, nat_lt}
+use Rattle.std.specs.Prelude.{◌≡◌, ℕ, ◌+◌, ◌-◌, ◌*◌, ◌^◌, ◌<◌, ◌≤◌, ◌==◌, bit_and, nat_lt}
 use Rattle.std.specs.Prelude.{List, [], ◌∷◌, ◌++◌, Bool, false, true, ◌||◌, if◌then◌else◌, replicate, slice_set}
 use Rattle.transfer_core.specs.Actors.{Actor, HasFinished, actor, idle, is_marked, morsels_of, nothing}
 use Rattle.transfer_core.specs.Actors.{with_finished, with_morsel, with_put, with_seen}
@@ -53,6 +53,10 @@ after_draw p morsels h r =
 
 abbrev pub after_put : ℕ → ℕ → Share → Share
 after_put item port h = share (with_put item port h.actor) h.told h.parts
+
+-- a look at the word of an item in the region of a port that found r: the put is listed where r has all bits of the mask
+abbrev pub after_find : ℕ → ℕ → ℕ → Share → ℕ → Share
+after_find item port mask h r = if bit_and r mask == mask then after_put item port h else h
 
 abbrev pub after_finish : Share → Share
 after_finish h = share (with_finished h.actor.held h.actor) h.told h.parts

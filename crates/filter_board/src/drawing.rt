@@ -1,5 +1,5 @@
 // Morsels: drawn, put and finished.
-ghost use Rattle.std.specs.Prelude.{◌≡◌, ℕ, ◌/◌, ◌<◌, ◌^◌, IfNone, IfSome, false, length};
+ghost use Rattle.std.specs.Prelude.{◌≡◌, ℕ, ◌/◌, ◌<◌, ◌^◌, IfNone, IfSome, false, length, true};
 ghost use Rattle.transfer_core.specs.Actors.{Holds, HoldsNone, is_marked};
 ghost use Rattle.transfer_core.specs.Actors.{with_finished, with_morsel, with_put};
 ghost use Rattle.transfer_core.specs.Job.{IsPassing};
@@ -10,7 +10,7 @@ ghost use Rattle.filter_board.specs.Views.{MayFinish, index_of_item, job_in, wit
 
 use crate::board::Board;
 use crate::hand::Hand;
-use crate::rule::{About, Draws, Finishes, Puts};
+use crate::rule::{About, Draws, Finds, Finishes, Puts};
 use crate::share::Share;
 use atomic_table::Seat;
 use key_codes::{Place, Placement};
@@ -68,7 +68,8 @@ impl<P: Placement + Drop> Board<P> {
             .fetch_add::<Draws<C>>(seat, pipe as usize, 1)
     }
 
-    /// Puts an item that passes, of the morsel that the hand holds, into the region of a port. One `fetch_or` of its mask.
+    /// Puts an item that passes, of the morsel that the hand holds, into the region of a port. It looks at the word, and where it
+    /// lacks a bit of the mask, makes one `fetch_or` of the mask.
     pub fn put(&self, hand: &mut Hand, pipe: u32, item: u32, port: u32)
         requires own { hand.old.of ≡ self.now.of }
         requires holds { Holds hand.old.actor pipe (item / self.now.plan.morsel) }
@@ -76,7 +77,36 @@ impl<P: Placement + Drop> Board<P> {
         ensures { hand.new ≡ with_actor (with_put item port) hand.old }
     {
         let (at, mask) = self.spot(pipe, item, port);
-        self.put_as::<Brand>(&mut hand.seat, pipe, item, port, at, mask);
+        // Workers whose items have the same few words wait for each other at each `fetch_or`, but not at a load.
+        if !self.finds_as::<Brand>(&mut hand.seat, pipe, item, port, at, mask) {
+            self.put_as::<Brand>(&mut hand.seat, pipe, item, port, at, mask);
+        }
+    }
+
+    // Whether the word has the bits of the item already, so that the item is put without a change.
+    fn finds_as<C: About>(
+        &self,
+        seat: &mut Seat<(), Share>,
+        pipe: u32,
+        item: u32,
+        port: u32,
+        at: usize,
+        mask: u64,
+    ) -> bool
+        requires about { (C.item ≡ item) × (C.port ≡ port) × (C.mask ≡ mask) }
+        requires own { seat.old.table_id ≡ self.now.of }
+        requires item { IsPassing (job_in P.seen self.now) pipe item port }
+        requires at { at ≡ index_of_item P.seen self.now pipe item port }
+        requires mask { mask ≡ (job_in P.seen self.now).mask pipe item port }
+        requires part { 0 < seat.old.me.0.parts }
+        requires holds { Holds seat.old.me.0.actor pipe (item / self.now.plan.morsel) }
+        ensures own { seat.new.table_id ≡ seat.old.table_id }
+        ensures put { result ≡ true
+            → seat.new.me ≡ (after_put item port seat.old.me.0, seat.old.me.1) }
+        ensures not_put { result ≡ false → seat.new.me ≡ seat.old.me }
+    {
+        let word = self.table.shared.load::<Finds<C>>(seat, at);
+        word & mask == mask
     }
 
     fn put_as<C: About>(

@@ -4,7 +4,7 @@ ghost use Rattle.transfer_core.specs.Actors.{HoldsNone};
 ghost use Rattle.transfer_core.specs.Plans.{shape_of};
 ghost use Rattle.filter_board.specs.Rule.{IsSoundBoard};
 ghost use Rattle.filter_board.specs.Shares.{HasFinishedBelow, HasFinishedOnce, IsTold, fresh, parts_of, spent};
-ghost use Rattle.filter_board.specs.Shares.{after_draw, after_finish, after_look, after_put, joined, less, piece};
+ghost use Rattle.filter_board.specs.Shares.{after_draw, after_find, after_finish, after_look, after_put, joined, less, piece};
 
 use crate::setup::Setup;
 use crate::share::Share;
@@ -35,6 +35,8 @@ pub trait About {
 
     ghost port: { ℕ };
 
+    ghost mask: { ℕ };
+
     ghost sealed: { ℕ };
 
     ghost parts: { ℕ };
@@ -48,6 +50,8 @@ impl About for Brand {
     ghost item = { 0 };
 
     ghost port = { 0 };
+
+    ghost mask = { 0 };
 
     ghost sealed = { 0 };
 
@@ -71,6 +75,15 @@ pub struct Puts<C> {
 
 impl<C: About> Play<(), Share> for Puts<C> {
     ghost then = { λ _ me _ after. after ≡ (after_put C.item C.port me.0, me.1) };
+}
+
+/// A look at the word of an item in the region of a port. Where it has all bits of the item's mask, it is as good as a put.
+pub struct Finds<C> {
+    about: PhantomData<C>,
+}
+
+impl<C: About> Play<(), Share> for Finds<C> {
+    ghost then = { λ _ me r after. after ≡ (after_find C.item C.port C.mask me.0 r, me.1) };
 }
 
 /// The end of the morsel that is held.
