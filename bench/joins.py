@@ -1,8 +1,9 @@
 #!/usr/bin/env python3
 """Times `rpt run` over tables that it makes: python3 bench/joins.py PROGRAM [ROWS]
 
-Each query is run three times with filters of each kind; the least wall time and the greatest resident memory are printed, how long
-the output is, and how many rows of all relations the filters keep.
+Each query is run three times for each of some settings: exact filters by one, two and four workers, Bloom filters by four, and none.
+The least wall time and the greatest resident memory are printed, how long the output is, and how many rows of all relations the filters
+keep.
 ROWS, 1,000,000 where it isn't given, is how many rows the greatest table has. The numbers are drawn from one seed, so that two
 builds of the program answer the same queries.
 
@@ -78,6 +79,9 @@ def timed(words):
     return time.monotonic() - begun, used.ru_maxrss // 1024, length
 
 
+SETTINGS = [("exact", 1), ("exact", 2), ("exact", 4), ("bloom", 4), ("none", 4)]
+
+
 def reduced(words):
     """Returns how many rows of all relations the filters keep, by the report of the program."""
     report = subprocess.run(words, stdout=subprocess.PIPE, check=True).stdout
@@ -92,12 +96,12 @@ def main():
             script = make(folder, rows, random.Random(1).randrange)
             with open(f"{folder}/query.sql", "w", encoding="ascii") as file:
                 file.write(script)
-            for kind in ("exact", "bloom") if make is skewed else ("exact", "bloom", "none"):
-                words = [f"{folder}/query.sql", folder, "--filter", kind]
+            for kind, workers in SETTINGS[:-1] if make is skewed else SETTINGS:
+                words = [f"{folder}/query.sql", folder, "--filter", kind, "--workers", str(workers)]
                 runs = [timed([program, "run", *words]) for _ in range(3)]
                 least, most = min(it[0] for it in runs), max(it[1] for it in runs)
                 kept = reduced([program, "explain", *words])
-                print(f"{make.__name__:9} {kind:6} {least:7.2f} s {most:6} MiB {runs[0][2]:12} bytes {kept:9} rows", flush=True)
+                print(f"{make.__name__:9} {kind:6} {workers} {least:7.2f} s {most:6} MiB {runs[0][2]:12} bytes {kept:9} rows", flush=True)
 
 
 if __name__ == "__main__":
