@@ -1,4 +1,5 @@
 -- The laws of places of hashes. They stand here since what a placement's ghost members cite stands in specs.
+-- Words of this crate's own contracts.
 use Rattle.std.proofs.Common.{◌≢◌, mul_comm, subst, ℕ, ◌*◌, ◌/◌, ◌%◌, ◌^◌, ◌<◌, ◌≤◌, All, List, get_or, arith}
 use Rattle.std.specs.Prelude.{bit_or}
 use Rattle.std.proofs.Math.Nat.{div-lt_iff_lt-mul, mul-lt-mul_of_pos_left, one-le-pow}

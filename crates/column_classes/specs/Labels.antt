@@ -1,4 +1,5 @@
 -- Columns with the labels of their classes.
+-- Words of this crate's own contracts.
 use Rattle.std.specs.Prelude.{◌≡◌, ◌≢◌, ◌==◌, ◌+◌, ◌*◌, ◌<◌, ◌≤◌, ◌↔◌, if◌then◌else◌, ℕ, List, All, AllPairs, Any, Contains, EachIndex, SomeIndex, length, max, min}
 use Rattle.std.specs.List.{slice_index_or}
 use Rattle.column_classes.specs.Variables.{AreOfTwoRelations, BeginsBefore, ComesBefore, IsColumn, IsLesserPair, Linked, column_of}

@@ -1,4 +1,5 @@
 -- Columns, and the rows that they show.
+-- Words of this crate's own contracts.
 use Rattle.std.specs.Prelude.{ℕ, ◌≤◌, suc, zero, List, [], ◌∷◌, ◌++◌, ◌≡◌, pos, IsTrue, length, map, take, slice_index_or}
 use Rattle.std.specs.List.{list_all, range_with_len}
 use Rattle.rpt_base.specs.declared.limits.TheConstants.{MAX_ROWS}

@@ -1,4 +1,5 @@
 -- What a column holds.
+-- Words of this crate's own contracts.
 use Rattle.std.specs.Prelude.{map}
 use Rattle.rpt_base.specs.declared.values.ColumnType.TheVariants as kind
 use Rattle.rpt_base.specs.declared.values.Value.TheVariants as value

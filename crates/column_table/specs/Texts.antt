@@ -1,4 +1,5 @@
 -- Texts whose bytes stand one after another.
+-- Words of this crate's own contracts.
 use Rattle.std.specs.Prelude.{ℕ, ◌-◌, ◌≤◌, List, [], ◌∷◌, IsTrue, length, take, drop}
 use Rattle.std.specs.List.{list_all}
 use Rattle.std.specs.Str.{is_utf8}

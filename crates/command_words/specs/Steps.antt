@@ -1,4 +1,5 @@
 -- Words of this crate's own contracts: what the reading of options and flags gives.
+-- Words of this crate's own contracts.
 use Rattle.std.specs.Prelude.{◌≡◌, ℕ, ◌≤◌, List, drop, length, Result, Ok, Err, Option, Some, None}
 use Rattle.command_words.specs.Words.{settings_behind}
 use Rattle.command_words.specs.declared.settings.Settings.{Settings}

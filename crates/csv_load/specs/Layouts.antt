@@ -1,4 +1,5 @@
 -- How the records of a file are laid out.
+-- Words of this crate's own contracts.
 use Rattle.std.specs.Prelude.{ℕ, List}
 use Rattle.column_table.specs.declared.declared.ColumnDecl.{ColumnDecl}
 

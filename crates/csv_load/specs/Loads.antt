@@ -1,4 +1,5 @@
 -- What the parts of loading answer.
+-- Words of this crate's own contracts.
 use Rattle.std.specs.Prelude.{◌≡◌, ◌++◌, ◌∷◌, [], Bool, true, false, List, Option, Some, None, Result, Ok, Err}
 use Rattle.rpt_base.specs.declared.values.Value.{Value}
 use Rattle.column_table.specs.Table.{Filling}

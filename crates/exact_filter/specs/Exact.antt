@@ -1,4 +1,5 @@
 -- Codes and items as numbers with a bit each.
+-- Words of this crate's own contracts.
 use Rattle.std.specs.Prelude.{◌≡◌, ◌≢◌, ◌⊎◌, ℕ, List, bit_and}
 use Rattle.std.specs.Int.{div_ceil}
 use Rattle.std.specs.List.{range_with_len}

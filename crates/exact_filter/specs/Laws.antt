@@ -1,4 +1,5 @@
 -- The laws of exact places. They stand here since what a placement's ghost members cite stands in specs.
+-- Words of this crate's own contracts.
 use Rattle.std.proofs.Common.{◌≡◌, ◌≢◌, ℕ, ◌/◌, ◌^◌, ◌<◌, ◌≤◌, All, List, length, get_or, arith}
 use Rattle.std.specs.Int.{div_ceil}
 use Rattle.std.specs.List.{range_with_len}

@@ -1,4 +1,5 @@
 -- How a board lies in memory.
+-- Words of this crate's own contracts.
 use Rattle.std.specs.Prelude.{◌≡◌, ℕ, ◌<◌, ◌^◌, List}
 use Rattle.atomic_table.specs.Seated.{TableId}
 use Rattle.rpt_base.specs.Limits.{AreWorkers}

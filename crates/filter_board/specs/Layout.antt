@@ -1,4 +1,5 @@
 -- Where things stand among the words of a board.
+-- Words of this crate's own contracts.
 use Rattle.std.specs.Prelude.{◌≡◌, ℕ, zero, suc, ◌+◌, ◌<◌, List, [], ◌∷◌, length, replicate, slice_index, slice_index_or}
 use Rattle.transfer_core.specs.Counts.{total}
 use Rattle.transfer_core.specs.Plans.{Shape}

@@ -1,4 +1,5 @@
 -- Sound boards.
+-- Words of this crate's own contracts.
 use Rattle.std.specs.Prelude.{◌≡◌, ℕ, ◌+◌, ◌<◌, ◌≤◌, List, cond, length, map}
 use mathlib.Core.Option.{some}
 use lib.ListN.{get_elem?}

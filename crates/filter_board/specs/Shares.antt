@@ -1,4 +1,5 @@
 -- What hands have of their board, and what steps change of it.
+-- Words of this crate's own contracts.
 use Rattle.std.specs.Prelude.{◌≡◌, ℕ, ◌+◌, ◌-◌, ◌*◌, ◌^◌, ◌<◌, ◌≤◌, ◌==◌, bit_and, nat_lt}
 use Rattle.std.specs.Prelude.{List, [], ◌∷◌, ◌++◌, Bool, false, true, ◌||◌, if◌then◌else◌, replicate, slice_set}
 use Rattle.transfer_core.specs.Actors.{Actor, HasFinished, actor, idle, is_marked, morsels_of, nothing}

@@ -1,4 +1,5 @@
 -- A board and a hand as contracts see them.
+-- Words of this crate's own contracts.
 use Rattle.std.specs.Prelude.{◌≡◌, ℕ, ◌<◌, ◌==◌, List, [], Bool, bit_and, slice_set, true}
 pub use Rattle.atomic_table.specs.Seated.{TableId}
 use Rattle.rpt_base.specs.Limits.{AreWorkers}

@@ -1,4 +1,5 @@
 -- What the parts of a run tell.
+-- Words of this crate's own contracts.
 use Rattle.std.specs.Prelude.{◌≡◌, ℕ, ◌<◌, length, map}
 use Rattle.std.specs.List.{range_with_len}
 use Rattle.transfer_plan.specs.Kept.{CanTell, kept_count}

@@ -1,4 +1,5 @@
 -- How a pattern fits up to its next `%`.
+-- Words of this crate's own contracts.
 use Rattle.std.specs.Prelude.{ℕ, ◌≡◌, ◌<◌, ◌≤◌, List, true, false, length}
 use Rattle.std.specs.Str.{chars}
 use Rattle.predicate.specs.declared.like.Fit.{Fit}

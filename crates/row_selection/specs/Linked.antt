@@ -1,4 +1,5 @@
 -- Rows with the same value in linked columns.
+-- Words of this crate's own contracts.
 use Rattle.std.specs.Prelude.{ℕ, ◌<◌, Bool, List, [], length, pos, slice_index_or}
 use Rattle.std.specs.List.{All, list_all}
 use Rattle.std.specs.Ordering.{is_eq}

@@ -1,4 +1,5 @@
 -- Words of this crate's own contracts: what the parts of the top call give.
+-- Words of this crate's own contracts.
 use Rattle.std.specs.Prelude.{◌≡◌, ◌⊎◌, ℕ, List, Result, Ok, Err, Option, Some, None, length}
 use Rattle.sql_grammar.specs.declared.tree.Script.{Script}
 use Rattle.column_table.specs.Table.{Rows}

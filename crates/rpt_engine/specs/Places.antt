@@ -1,4 +1,5 @@
 -- Places of any kind are seen as those that they hold.
+-- Words of this crate's own contracts.
 use Rattle.key_codes.specs.Placement.{IsLawful, Places}
 use Rattle.bloom_block.specs.Bloom.{seen_hashes}
 use Rattle.bloom_block.specs.Laws.{lawful_hashes}

@@ -1,4 +1,5 @@
 -- Files that are held in memory, as pairs of a name and its bytes.
+-- Words of this crate's own contracts.
 use Rattle.std.specs.Prelude.{ℕ, ◌==◌, Bool, false, List, [], drop, Option, None, Some, Vec, zero, suc, nat_lt, length, ◌∷◌, if◌then◌else◌, slice_index_or, bytes_eq}
 use Rattle.std.specs.List.{position_or_len}
 

@@ -1,4 +1,5 @@
 -- What reading a whole file may answer.
+-- Words of this crate's own contracts.
 use Rattle.std.specs.Prelude.{◌≡◌, ◌⊎◌, ℕ, ◌<◌, ◌≤◌, Bool, true, false, List, length, Option, Result, Ok, Err, Vec}
 use Rattle.std.specs.Io.KnownBytes.{Consumes}
 use Rattle.rpt_outside.specs.Causes.{Rose, Tells}

@@ -1,4 +1,5 @@
 -- Syntax trees that a script can have.
+-- Words of this crate's own contracts.
 use Rattle.std.specs.Prelude.{◌≡◌, ◌≤◌, Bool, true, false, ◌&&◌, List, [], ◌∷◌, length, Option, None, Some, IsTrue}
 use Rattle.std.specs.List.{list_all}
 use Rattle.sql_grammar.specs.declared.tree.Cond.{Cond}

@@ -1,4 +1,5 @@
 -- A table of words.
+-- Words of this crate's own contracts.
 use Rattle.std.specs.Prelude.{ℕ, List, [], ◌∷◌, if◌then◌else◌}
 use Rattle.std.specs.Str.{bytes_eq}
 use Rattle.sql_grammar.specs.declared.kinds.Kind.{Kind}

@@ -1,4 +1,5 @@
 -- The tokens of a script's bytes as a function. That they are the tokens of specs/Tokens.antt is the theorem of `tokens_are_read`.
+-- Words of this crate's own contracts.
 use Rattle.std.specs.Prelude.{◌≡◌, ◌⊎◌, ℕ, ◌==◌, ◌&&◌, ◌+◌, ◌-◌, suc, zero, not, nat_eq, nat_le, Bool, true, false, List, [], ◌∷◌, ◌++◌, length, take, drop, Option, None, Some, Result, Ok, Err, MatchResult, if◌then◌else◌}
 use Rattle.std.specs.List.{take_while, starts_with}
 use Rattle.std.specs.Option.{option_map}

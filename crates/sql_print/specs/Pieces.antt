@@ -1,4 +1,5 @@
 -- What a printed script is made of.
+-- Words of this crate's own contracts.
 use Rattle.std.specs.Prelude.{ℕ, ◌≤◌, List, [], ◌∷◌, ◌++◌, codes, decimal, IsTrue}
 use Rattle.std.specs.Str.{IsUtf8}
 use Rattle.sql_lex.specs.declared.tokens.Mark.{Mark}

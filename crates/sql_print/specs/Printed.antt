@@ -1,4 +1,5 @@
 -- The printed form of a script, as the pieces that stand before more of them.
+-- Words of this crate's own contracts.
 use Rattle.std.specs.Prelude.{ℕ, ◌+◌, suc, Bool, true, false, List, [], ◌∷◌, Option, None, Some, codes, max, map, ℤ, pos, negsuc}
 use Rattle.rpt_base.specs.declared.values.ColumnType.{ColumnType}
 use Rattle.rpt_base.specs.declared.values.ColumnType.TheVariants as column_type

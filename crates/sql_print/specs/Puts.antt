@@ -1,4 +1,5 @@
 -- What putting pieces does to a text.
+-- Words of this crate's own contracts.
 use Rattle.std.specs.Prelude.{◌≡◌, ℕ, List, [], ◌++◌}
 use Rattle.sql_print.specs.Pieces.{Piece, shown, ArePieces}
 use Rattle.sql_print.specs.Printed.{script_pieces, printed}

@@ -1,4 +1,5 @@
 -- The tokens of a printed script.
+-- Words of this crate's own contracts.
 use Rattle.std.specs.Prelude.{◌≡◌, ℕ, List, [], ◌∷◌}
 use Rattle.std.specs.Str.{str_to_ascii_lowercase}
 use Rattle.sql_lex.specs.declared.tokens.Token.{Token}

@@ -1,4 +1,5 @@
 -- Which numbers are put into a region, and which it answers.
+-- Words of this crate's own contracts.
 use Rattle.std.specs.Prelude.{◌≡◌, ◌↔◌, ℕ, ◌<◌, length, slice_index, true}
 use Rattle.key_codes.specs.Placement.{Kind}
 use Rattle.key_codes.specs.Placement.Kind.{Exact}

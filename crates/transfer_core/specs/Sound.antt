@@ -1,4 +1,5 @@
 -- Sound states.
+-- Words of this crate's own contracts.
 use Rattle.std.specs.Prelude.{◌≡◌, ℕ, ◌/◌, ◌<◌, List, ◌++◌, length, min, true}
 use mathlib.Core.Option.{some}
 use lib.ListN.{get_elem?}

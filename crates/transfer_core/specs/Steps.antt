@@ -1,4 +1,5 @@
 -- Steps of actors, and the states that they lead to.
+-- Words of this crate's own contracts.
 use Rattle.std.specs.Prelude.{◌≡◌, ℕ, ◌+◌, ◌/◌, ◌<◌, ◌≤◌, ◌==◌, nat_lt, if◌then◌else◌, true, List, [], ◌∷◌, length, map, replicate, slice_index, slice_index_or, slice_set}
 use Rattle.transfer_core.specs.declared.steps.Step.{Step}
 use Rattle.transfer_core.specs.declared.steps.Step.TheVariants as step

@@ -1,4 +1,5 @@
 -- Hands between rounds.
+-- Words of this crate's own contracts.
 use Rattle.std.specs.Prelude.{◌≡◌, ℕ, ◌+◌, ◌<◌, List, Bool}
 use Rattle.transfer_core.specs.Actors.{HasSeen, HoldsNone, actor}
 use Rattle.transfer_core.specs.Counts.{total}

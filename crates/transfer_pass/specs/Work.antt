@@ -1,4 +1,5 @@
 -- The items of a morsel that a hand holds.
+-- Words of this crate's own contracts.
 use Rattle.std.specs.Prelude.{◌≡◌, ℕ, ◌<◌, List, Bool, true}
 use Rattle.transfer_core.specs.declared.plan.Port.{Port}
 use Rattle.transfer_core.specs.Actors.{Actor, HasSeen, actor, is_listed}

@@ -1,4 +1,5 @@
 -- What holds of the plan of each tree.
+-- Words of this crate's own contracts.
 use Rattle.std.specs.Prelude.{◌≡◌, ◌↔◌, ◌<◌, ◌==◌, ◌&&◌, ◌||◌, not, ℕ, Bool, Contains, List, length, map, slice_index, true}
 use Rattle.std.specs.List.{list_all, range_with_len}
 use Rattle.join_graph.specs.declared.tree.Link.{Link}

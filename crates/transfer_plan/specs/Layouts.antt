@@ -1,4 +1,5 @@
 -- What the pipes of a tree's plan are made from.
+-- Words of this crate's own contracts.
 use Rattle.std.specs.Prelude.{◌≡◌, ℕ, ◌<◌, ◌≤◌, ◌^◌, Bool, List, [], ◌∷◌, if◌then◌else◌, length, slice_index}
 use Rattle.std.specs.List.{flat_map}
 use Rattle.join_graph.specs.declared.tree.Tree.{Tree}
