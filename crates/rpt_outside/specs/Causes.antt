@@ -1,5 +1,5 @@
 -- When a call on the outside may fail, and what it leaves.
-use Rattle.std.specs.Prelude.{◌≡◌, ℕ, ◌+◌, ◌-◌, ◌^◌, ◌≤◌, min, List, ◌++◌, Option, None, Some, ⊤, Result, OnOk, OnErr}
+use Rattle.std.specs.Prelude.{◌≡◌, ℕ, ◌+◌, ◌-◌, ◌^◌, ◌≤◌, min, Bool, false, List, ◌++◌, Option, None, Some, ⊤, Result, OnOk, OnErr}
 use Rattle.std.specs.Io.KnownBytes.{Appends}
 
 -- a count of faults rose, or stands at its last value
@@ -24,7 +24,12 @@ pub record Puts {T E : Type 0} (old new : Option (List ℕ)) (before now : ℕ) 
   pub failed : OnErr result (Rose before now)
   pub later : before ≤ now
 
--- these are the contents, where they are told
+-- these are the contents of a file, where they are told
 abbrev pub Tells : Option (List ℕ) → List ℕ → Type 0
 Tells None bytes = ⊤
 Tells (Some contents) bytes = bytes ≡ contents
+
+-- a file that isn't missing has these contents, where they are told
+pub record HasContents (missing : Bool) (told : Option (List ℕ)) (bytes : List ℕ) : Type 0 where
+  pub there : missing ≡ false
+  pub contents : Tells told bytes

@@ -1,6 +1,6 @@
 -- Files that are held in memory, as pairs of a name and its bytes.
 -- Words of this crate's own contracts.
-use Rattle.std.specs.Prelude.{ℕ, ◌==◌, Bool, false, List, [], drop, Option, None, Some, Vec, zero, suc, nat_lt, length, ◌∷◌, if◌then◌else◌, slice_index_or, bytes_eq}
+use Rattle.std.specs.Prelude.{ℕ, ◌==◌, Bool, false, not, List, [], drop, Option, None, Some, Vec, zero, suc, nat_lt, length, ◌∷◌, if◌then◌else◌, slice_index_or, bytes_eq}
 use Rattle.std.specs.List.{position_or_len}
 
 -- the place of the first file of a name, or the number of files
@@ -21,6 +21,10 @@ held_bytes files name = bytes_at files (place files name)
 abbrev pub contents_of : {Z : Type 0} → List (Vec ℕ Z × Vec ℕ Z) → List ℕ → Option (List ℕ)
 contents_of files name =
     if nat_lt (place files name) (length files) then Some (bytes_at files (place files name)) else None
+
+-- no file has the name
+abbrev pub is_missing_among : {Z : Type 0} → List (Vec ℕ Z × Vec ℕ Z) → List ℕ → Bool
+is_missing_among files name = not (nat_lt (place files name) (length files))
 
 -- the count of a name; the last count is that of all names without a file
 abbrev pub count_of : {Z : Type 0} → List (Vec ℕ Z × Vec ℕ Z) → List ℕ → List ℕ → ℕ

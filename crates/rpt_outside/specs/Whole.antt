@@ -1,26 +1,32 @@
 -- What reading a whole file may answer.
 -- Words of this crate's own contracts.
 use Rattle.std.specs.Prelude.{◌≡◌, ◌⊎◌, ℕ, ◌<◌, ◌≤◌, Bool, true, false, List, length, Option, Result, Ok, Err, Vec}
-use Rattle.std.specs.Io.KnownBytes.{Consumes}
-use Rattle.rpt_outside.specs.Causes.{Rose, Tells}
+use Rattle.std.specs.Io.KnownBytes.{Consumes, IsAtEnd}
+use Rattle.rpt_outside.specs.Causes.{HasContents, Rose}
 use Rattle.rpt_outside.specs.declared.whole.ReadError.{ReadError}
 use Rattle.rpt_outside.specs.declared.whole.ReadError.TheVariants.{Failed, TooLarge, Memory}
 
--- The whole contents, within the limit; or a fault, where this name's count rose; or contents of more than the limit; or
--- want of memory, which may always be.
-abbrev pub Reads : Option (List ℕ) → ℕ → List ℕ → (List ℕ → ℕ) → (List ℕ → ℕ) → Result (List ℕ) ReadError → Type 0
-Reads told limit name before now (Ok bytes) = Tells told bytes × (length bytes ≤ limit)
-Reads told limit name before now (Err Failed) = Rose (before name) (now name)
-Reads told limit name before now (Err TooLarge) = (bytes : List ℕ) × Tells told bytes × (limit < length bytes)
-Reads told limit name before now (Err Memory) = Unit {0}
+-- The whole contents of a file that is there, within the limit; or a fault, where this name's count rose; or contents of more than
+-- the limit; or want of memory, which may always be.
+abbrev pub Reads : Bool → Option (List ℕ) → ℕ → List ℕ → (List ℕ → ℕ) → (List ℕ → ℕ) → Result (List ℕ) ReadError → Type 0
+Reads missing told limit name before now (Ok bytes) = HasContents missing told bytes × (length bytes ≤ limit)
+Reads missing told limit name before now (Err Failed) = Rose (before name) (now name)
+Reads missing told limit name before now (Err TooLarge) = (bytes : List ℕ) × HasContents missing told bytes × (limit < length bytes)
+Reads missing told limit name before now (Err Memory) = Unit {0}
 
 -- the file of this name is started, and some of its bytes are read
 abbrev pub IsReadInPart : Option (List ℕ) → Option (List ℕ) → (List ℕ → Bool) → List ℕ → Type 0
 IsReadInPart told left started name = (started name ≡ true) × ((read : List ℕ) × Consumes told left read)
 
--- that is what a read leaves; or its start failed, and no file is started
+-- the file of this name is started, these bytes are read, and none is left
+pub record IsReadToEnd (told left : Option (List ℕ)) (started : List ℕ → Bool) (name bytes : List ℕ) : Type 0 where
+  pub is_started : started name ≡ true
+  pub read : Consumes told left bytes
+  pub at_end : IsAtEnd left
+
+-- The file whose bytes are given is read to its end. Else it is read in part, or its start failed and no file is started.
 abbrev pub Leaves : Option (List ℕ) → Option (List ℕ) → (List ℕ → Bool) → List ℕ → Result (List ℕ) ReadError → Type 0
-Leaves told left started name (Ok bytes) = IsReadInPart told left started name
+Leaves told left started name (Ok bytes) = IsReadToEnd told left started name bytes
 Leaves told left started name (Err Failed) = IsReadInPart told left started name ⊎ ((other : List ℕ) → started other ≡ false)
 Leaves told left started name (Err TooLarge) = IsReadInPart told left started name
 Leaves told left started name (Err Memory) = IsReadInPart told left started name

@@ -1,5 +1,5 @@
-// A real folder. It tells no bytes, and has one count of faults for all names.
-ghost use Rattle.std.specs.Prelude.{None, is_some};
+// A real folder. It tells no bytes and no missing names, and has one count of faults for all names.
+ghost use Rattle.std.specs.Prelude.{None, false, is_some};
 
 use crate::traits::{Failed, Files};
 use std::fs;
@@ -28,6 +28,8 @@ impl<H: Host> FolderFiles<H> {
 }
 
 impl<H: Host> Files for FolderFiles<H> {
+    ghost is_missing = { λ _ _. false };
+
     ghost contents = { λ _ _. None };
 
     ghost is_started = { λ s _. is_some s.file };

@@ -1,5 +1,5 @@
 // Files in memory, of which none is missing.
-ghost use Rattle.std.specs.Prelude.{◌≡◌, List, ℕ, Some, drop, true};
+ghost use Rattle.std.specs.Prelude.{◌≡◌, List, ℕ, Some, drop, false, true};
 ghost use Rattle.rpt_outside.specs.Held.{bytes_at, held_bytes};
 
 use crate::memory_files::{bytes_of, copy_from, place_of};
@@ -17,6 +17,7 @@ pub struct HeldFiles {
 impl HeldFiles {
     /// Files as pairs of a name and its bytes; of several files of one name the first counts.
     pub fn new(files: Vec<(Vec<u8>, Vec<u8>)>) -> HeldFiles
+        ensures none_missing { ⟦<HeldFiles as Files>⟧.is_missing result ≡ λ name. false }
         ensures contents { ⟦<HeldFiles as Files>⟧.contents result ≡ λ name. Some (held_bytes files.items name) }
         ensures no_faults { ⟦<HeldFiles as Files>⟧.faults result ≡ λ name. 0 }
     {
@@ -30,6 +31,8 @@ impl HeldFiles {
 }
 
 impl Files for HeldFiles {
+    ghost is_missing = { λ s name. false };
+
     ghost contents = { λ s name. Some (held_bytes s.files.items name) };
 
     ghost is_started = { λ s name. true };

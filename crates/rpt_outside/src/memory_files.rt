@@ -2,7 +2,7 @@
 ghost use Rattle.std.specs.Prelude.{◌≡◌, ◌+◌, ◌≤◌, ◌<◌, length, take, drop, List, ℕ, [], ◌++◌, false, IfOk, slice_index_or};
 ghost use Rattle.std.specs.Option.{ForSome};
 ghost use Rattle.rpt_outside.specs.Causes.{Rose};
-ghost use Rattle.rpt_outside.specs.Held.{place, bytes_at, contents_of, count_of, is_at, left_of};
+ghost use Rattle.rpt_outside.specs.Held.{place, bytes_at, contents_of, count_of, is_at, is_missing_among, left_of};
 
 use crate::traits::{Failed, Files};
 use rpt_base::Memory;
@@ -37,6 +37,7 @@ impl MemoryFiles {
         piece: u32,
     ) -> Result<MemoryFiles, Memory>
         requires { 1 ≤ piece }
+        ensures missing { IfOk result (λ s. ⟦<MemoryFiles as Files>⟧.is_missing s ≡ is_missing_among files.items) }
         ensures contents { IfOk result (λ s. ⟦<MemoryFiles as Files>⟧.contents s ≡ contents_of files.items) }
         ensures none_started { IfOk result (λ s. (n : List ℕ) → ⟦<MemoryFiles as Files>⟧.is_started s n ≡ false) }
         ensures no_faults { IfOk result (λ s. (n : List ℕ) → ⟦<MemoryFiles as Files>⟧.faults s n ≡ 0) }
@@ -64,6 +65,8 @@ impl MemoryFiles {
 }
 
 impl Files for MemoryFiles {
+    ghost is_missing = { λ s. is_missing_among s.files.items };
+
     ghost contents = { λ s. contents_of s.files.items };
 
     ghost is_started = { λ s name. is_at s.started (place s.files.items name) };

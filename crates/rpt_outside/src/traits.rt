@@ -10,13 +10,17 @@ pub struct Failed;
 
 /// Files that are read one at a time, by their names.
 ///
-/// Contracts see four things. `contents` is the bytes of the file of each name. `is_started` says whether a name is that
-/// of the started file: it is a test, since a real folder can't tell its names apart. `left` is what is still to be read
-/// of the started file. `faults` counts the failed calls for each name; it never falls, and stands still at 2^64 - 1.
+/// Contracts see five things. `is_missing` says which names have no file, where that is known. `contents` is the bytes of
+/// the file of each name. `is_started` says whether a name is that of the started file: it is a test, since a real folder
+/// can't tell its names apart. `left` is what is still to be read of the started file. `faults` counts the failed calls for
+/// each name; it never falls, and stands still at 2^64 - 1.
 ///
-/// `contents` and `left` may be `None`: then nothing is told of the bytes, as of those of a real folder. Nothing is
+/// `contents` and `left` may be `None`: then nothing is told of the bytes, as of those of a real folder, which doesn't tell
+/// what is missing either. Nothing is
 /// promised of another name's count but that it doesn't fall, so a fault at one name shows none at another.
 pub trait Files {
+    ghost is_missing: { Self → List ℕ → Bool };
+
     ghost contents: { Self → List ℕ → Option (List ℕ) };
 
     ghost is_started: { Self → List ℕ → Bool };
@@ -27,14 +31,17 @@ pub trait Files {
 
     /// Starts the file of that name at its first byte.
     ///
-    /// `Failed` comes only where the count of that name rose, as where there is no such file. Then no file is started.
+    /// A file that is missing is never started. `Failed` comes only where the count of that name rose, as where there is no
+    /// such file. Then no file is started.
     fn start_file(&mut self, name: &[u8]) -> Result<(), Failed>
         ensures started { OnOk result (IsTrue (is_started self.new name.now)) }
+        ensures there { OnOk result (is_missing self.old name.now ≡ false) }
         ensures whole { OnOk result (left self.new ≡ contents self.old name.now) }
 
         ensures none { OnErr result ((n : List ℕ) → is_started self.new n ≡ false) }
         ensures failed { OnErr result (Rose (faults self.old name.now) (faults self.new name.now)) }
 
+        ensures missing { is_missing self.new ≡ is_missing self.old }
         ensures contents { contents self.new ≡ contents self.old }
         ensures later { NeverFalls (faults self.old) (faults self.new) };
 
@@ -50,6 +57,7 @@ pub trait Files {
         ensures failed { OnErr result ((n : List ℕ) → IsTrue (is_started self.old n) → Rose (faults self.old n) (faults self.new n)) }
 
         ensures started { is_started self.new ≡ is_started self.old }
+        ensures missing { is_missing self.new ≡ is_missing self.old }
         ensures contents { contents self.new ≡ contents self.old }
         ensures later { NeverFalls (faults self.old) (faults self.new) };
 }

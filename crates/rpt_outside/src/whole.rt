@@ -29,8 +29,9 @@ pub fn read_whole<F: Files>(
     name: &[u8],
     limit: u32,
 ) -> Result<Vec<u8>, ReadError>
-    ensures reads { Reads (F.contents files.old name.now) limit name.now (F.faults files.old) (F.faults files.new) (bytes_of result) }
+    ensures reads { Reads (F.is_missing files.old name.now) (F.contents files.old name.now) limit name.now (F.faults files.old) (F.faults files.new) (bytes_of result) }
     ensures leaves { Leaves (F.contents files.old name.now) (F.left files.new) (F.is_started files.new) name.now (bytes_of result) }
+    ensures missing { F.is_missing files.new ≡ F.is_missing files.old }
     ensures contents { F.contents files.new ≡ F.contents files.old }
     ensures later { NeverFalls (F.faults files.old) (F.faults files.new) }
 {

@@ -9,7 +9,8 @@ returns-then-len-limit-clause-reads g c =
     let files = g.F.Files in
     let so_far : Consumes (files.contents c.args.files.now c.args.name.now) (files.left c.read.new.self) c.extend_from_slice.new.self.items = grind (arith, common_steps, further) in
     let more : c.args.limit < length c.extend_from_slice.new.self.items = omega arith in
-    too_large _ _ _ _ so_far more
+    let all = too_large _ _ _ _ so_far more in
+    (all.0, record { there = c.loop-bytes.invariant.there; contents = all.1 }, all.2)
 
 pub returns-then-is_err-2-clause-leaves : goal.returns-then-is_err-2-clause-leaves
 returns-then-is_err-2-clause-leaves g c =
