@@ -12,4 +12,6 @@ mod Placed
 mod Predicates
 mod Cuts
 pub mod Whole
+mod Outcomes
+mod Readings
 pub mod Formed

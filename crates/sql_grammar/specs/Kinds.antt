@@ -8,6 +8,7 @@ use Rattle.sql_lex.specs.declared.tokens.Mark.TheVariants as mark
 use Rattle.sql_lex.specs.declared.tokens.Token.{Token}
 use Rattle.sql_lex.specs.declared.tokens.TokenKind.{TokenKind}
 use Rattle.sql_lex.specs.declared.tokens.TokenKind.TheVariants as token_kind
+use Rattle.sql_lex.specs.Tokens.{is_word}
 use Rattle.sql_grammar.specs.declared.kinds.Kind.{Kind}
 use Rattle.sql_grammar.specs.declared.kinds.Kind.TheVariants as k
 
@@ -17,6 +18,10 @@ is_not_capital b = not (nat_le 65 b) || not (nat_le b 90)
 -- a name, of which ASCII letters are in lower case, as the lexer gives them
 abbrev pub is_name_in_lower_case : List ℕ → Bool
 is_name_in_lower_case bytes = is_name bytes && list_all is_not_capital bytes
+
+-- a word in lower case, as the lexer gives one: letters, digits and underscores
+abbrev pub is_word_in_lower_case : List ℕ → Bool
+is_word_in_lower_case bytes = is_word bytes && list_all is_not_capital bytes
 
 -- the reserved words that the grammar has no place for
 abbrev pub other_reserved : List (List ℕ)
@@ -73,7 +78,7 @@ kind_of_mark mark.Ge = k.Ge
 
 -- What no bytes are lexed to, a word or a quoted name that is none, is of no use in the grammar.
 abbrev pub kind_by : TokenKind → Kind
-kind_by (token_kind.Word word) = if is_name_in_lower_case word then kind_of_word word else k.Other
+kind_by (token_kind.Word word) = if is_word_in_lower_case word then kind_of_word word else k.Other
 kind_by (token_kind.Quoted name) = if is_name_in_lower_case name then k.Name else k.Other
 kind_by (token_kind.Number n) = kind_of_number n
 kind_by (token_kind.Text text) = k.Text

@@ -44,8 +44,12 @@ pub record IsTooDeep (levels : ℕ) (tokens : List Token) (at : ℕ) : Type 0 wh
   pub least : (f : Front (line script)) → front_text f rest ≡ tokens → levels < front_depth f
   pub place : at ≡ opener.start
 
+-- a syntax tree, or why there is none
+abbrev pub Answer : Type 0
+Answer = Result Script ParseError
+
 -- what the tokens, of a script with this end, are: a sentence with its tree, or refused at a place
-abbrev pub IsReading : ℕ → List Token → ℕ → Result Script ParseError → Type 0
+abbrev pub IsReading : ℕ → List Token → ℕ → Answer → Type 0
 IsReading levels tokens end (Ok tree) = IsSentence levels tokens tree
 IsReading levels tokens end (Err (Syntax at)) = IsSyntaxError levels tokens end at
 IsReading levels tokens end (Err (TooDeep at)) = IsTooDeep levels tokens at

@@ -2,11 +2,11 @@
 ghost use Rattle.std.specs.Prelude.{◌≡◌, map};
 ghost use Rattle.std.specs.List.{list_all};
 ghost use Rattle.std.specs.Str.{bytes_eq};
-ghost use Rattle.sql_grammar.specs.Kinds.{kind_of, kind_of_word as kind_said, kind_of_number as number_said, kind_of_mark as mark_said, is_name_in_lower_case as fits_said, is_not_capital};
+ghost use Rattle.sql_grammar.specs.Kinds.{kind_of, kind_of_word as kind_said, kind_of_number as number_said, kind_of_mark as mark_said, is_name_in_lower_case, is_word_in_lower_case, is_not_capital};
 ghost use Rattle.sql_grammar.specs.Words.{kind_among};
 
 use rpt_base::Name;
-use sql_lex::{Mark, Token, TokenKind};
+use sql_lex::{Mark, Token, TokenKind, is_word};
 
 /// What the grammar knows of a token: a keyword stands for a word of that spelling.
 #[derive(Clone, Copy, PartialEq, Eq)]
@@ -53,7 +53,7 @@ pub enum Kind {
     Le,
     Gt,
     Ge,
-    /// What a script's bytes never give: a name that is none or isn't in lower case, or a greater number.
+    /// What a script's bytes never give: a word or a name that is none or isn't in lower case, or a greater number.
     Other,
 }
 
@@ -64,14 +64,14 @@ pub fn kind_of(token: &Token) -> Kind
 {
     match &token.kind {
         TokenKind::Word(word) => {
-            if fits(word.bytes()) {
+            if is_lower_word(word.bytes()) {
                 kind_of_word(word.bytes())
             } else {
                 Kind::Other
             }
         }
         TokenKind::Quoted(name) => {
-            if fits(name.bytes()) {
+            if is_lower_name(name.bytes()) {
                 Kind::Name
             } else {
                 Kind::Other
@@ -83,9 +83,16 @@ pub fn kind_of(token: &Token) -> Kind
     }
 }
 
+// Whether the bytes are a word in lower case.
+fn is_lower_word(bytes: &[u8]) -> bool
+    ensures { result ≡ is_word_in_lower_case bytes.now }
+{
+    is_word(bytes) && has_no_capital(bytes)
+}
+
 // Whether the bytes are a name in lower case.
-fn fits(bytes: &[u8]) -> bool
-    ensures { result ≡ fits_said bytes.now }
+fn is_lower_name(bytes: &[u8]) -> bool
+    ensures { result ≡ is_name_in_lower_case bytes.now }
 {
     Name::fits(bytes) && has_no_capital(bytes)
 }

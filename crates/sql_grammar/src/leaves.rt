@@ -10,7 +10,7 @@ use crate::kinds::{Kind, kind_of};
 use crate::reading::{after, first_is, place_of};
 use crate::tree::{Alias, Op};
 use rpt_base::{ColumnType, Memory, Name, Str, Value};
-use sql_lex::{Token, TokenKind};
+use sql_lex::{Token, TokenKind, words_are_names};
 use std::alloc::Global;
 
 // The bytes of a word, a quoted name or a text.
@@ -62,6 +62,7 @@ fn name_of(alloc: Global, token: &Token) -> Result<Name, Memory>
     requires { among names (its_kind token.now) ≡ true }
     ensures { IfOk result (λ name. name ≡ written_in token.now.kind) }
 {
+    words_are_names();
     Name::make(alloc, written(token))
 }
 

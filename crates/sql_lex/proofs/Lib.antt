@@ -8,3 +8,4 @@ mod Steps
 mod Texts
 mod TokenLaws
 mod WellFormed
+mod WordNames

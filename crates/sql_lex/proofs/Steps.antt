@@ -3,19 +3,17 @@ use Rattle.std.proofs.Common.{◌≡◌, ◌≢◌, ◌∙◌, ap, sym, subst, r
 use Rattle.std.specs.Prelude.{◌&&◌, ◌==◌, nat_le, Option, Some, None, Result, Ok, Err, if◌then◌else◌}
 use Rattle.std.specs.List.{list_all}
 use Rattle.std.specs.Str.{IsUtf8, is_utf8}
-use Rattle.std.proofs.lemmas.Str.{is_utf8-from_IsUtf8, IsUtf8-from_is_utf8, IsUtf8-from_ascii}
-use Rattle.std.proofs.lemmas.Bool.Decides.{nat_tests}
-use Rattle.rpt_base.specs.Names.{is_name, is_name_byte}
+use Rattle.std.proofs.lemmas.Str.{is_utf8-from_IsUtf8, IsUtf8-from_is_utf8}
 use Rattle.std.specs.Char.{is_ascii_digit, digit_value}
 use Rattle.std.specs.Str.Parse.{digits_value_after}
-use Rattle.std.proofs.lemmas.Bool.{and_parts, and_from, and_right, eq-eqb, ne_eqb, false_from_ne_true, le-leb, lt-leb}
+use Rattle.std.proofs.lemmas.Bool.{and_right, eq-eqb, ne_eqb, false_from_ne_true, le-leb, lt-leb}
 use Rattle.std.proofs.lemmas.List.{drop_more, append_assoc, append-nil}
 use Rattle.std.proofs.lemmas.Option.{none-some}
 use Rattle.sql_lex.specs.declared.tokens.Token.{Token}
 use Rattle.sql_lex.specs.declared.tokens.TokenKind.{TokenKind}
 use Rattle.sql_lex.specs.declared.tokens.LexError.{LexError}
 use Rattle.sql_lex.specs.declared.tokens.LexError.TheVariants as error
-use Rattle.sql_lex.specs.Tokens.{begins_word, is_word_byte, is_word, given}
+use Rattle.sql_lex.specs.Tokens.{given}
 use Rattle.sql_lex.specs.Lexing.{number_of, grown, text_of, joined, tokens_behind, token_at, item_at, mark_token}
 
 -- the number of digits that follow those of a number, within the limit
@@ -90,37 +88,6 @@ utf8_test text h = is_utf8-from_IsUtf8 text h
 -- and what they are where they are no text
 pub utf8_test_fails : (text : List ℕ) → (IsUtf8 text → ⊥) → is_utf8 text ≡ false
 utf8_test_fails text h = false_from_ne_true (is_utf8 text) (λ t. h (IsUtf8-from_is_utf8 text t))
-
--- a word may be a name
-name_byte : (b : ℕ) → is_word_byte b ≡ true → is_name_byte b ≡ true
-name_byte b h = grind (arith, nat_tests)
-
--- and so may all of them
-name_bytes : (bytes : List ℕ) → list_all is_word_byte bytes ≡ true → list_all is_name_byte bytes ≡ true
-name_bytes [] h = refl
-name_bytes (b ∷ bytes) h =
-    let both = and_parts (is_word_byte b) (list_all is_word_byte bytes) h in
-    and_from _ _ (name_byte b both.0) (name_bytes bytes both.1)
-
--- a word byte is ASCII
-ascii_byte : (b : ℕ) → is_word_byte b ≡ true → b < 128
-ascii_byte b h = grind (arith, nat_tests)
-
--- so are all bytes of a word
-ascii_bytes : (bytes : List ℕ) → list_all is_word_byte bytes ≡ true → (i : ℕ) → get_or bytes i 0 < 128
-ascii_bytes [] h i = omega arith
-ascii_bytes (b ∷ bytes) h zero = ascii_byte b (and_parts (is_word_byte b) (list_all is_word_byte bytes) h).0
-ascii_bytes (b ∷ bytes) h (suc i) = ascii_bytes bytes (and_parts (is_word_byte b) (list_all is_word_byte bytes) h).1 i
-
--- a word may be a name
-pub word_name : (bytes : List ℕ) → is_word bytes ≡ true → is_name bytes ≡ true
-word_name [] h = h
-word_name (b ∷ bytes) h =
-    let run = b ∷ bytes in
-    let all = and_parts (begins_word b) (list_all is_word_byte run && nat_le (length run) 63) h in
-    let rest = and_parts (list_all is_word_byte run) (nat_le (length run) 63) all.1 in
-    let one : nat_le 1 (length run) ≡ true = le-leb 1 (length run) (omega arith) in
-    and_from _ _ one (and_from _ _ rest.1 (and_from _ _ (name_bytes run rest.0) (is_utf8-from_IsUtf8 run (IsUtf8-from_ascii run (ascii_bytes run rest.0)))))
 
 -- the steps of the loop over digits
 pub ruleset number_steps = (number_of-start, number_of-none, number_after-digit, number_after-other, number_after-large, number_after-end, drop_more)

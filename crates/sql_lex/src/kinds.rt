@@ -56,7 +56,7 @@ fn run_at(alloc: Global, bytes: &[u8]) -> Result<Option<(TokenKind, usize)>, Mem
 }
 
 // The word or the number that a run is.
-#[tactic(auto, using(crate::proofs::Steps::word_name), unfolding(crate::specs::Lexing::run_token))]
+#[tactic(auto, using(crate::proofs::WordNames::word_name), unfolding(crate::specs::Lexing::run_token))]
 fn run_token(alloc: Global, run: &[u8]) -> Result<Option<TokenKind>, Memory>
     ensures { IfOk result (λ found. found ≡ run_said run.now) }
 {
@@ -79,7 +79,8 @@ fn lowered(alloc: Global, bytes: &[u8]) -> Result<Str, Memory>
     Str::from_text(alloc, name.as_str())
 }
 
-fn is_word(run: &[u8]) -> bool
+/// Whether the bytes are a word: an ASCII letter or `_`, then letters, digits and `_`, at most 63 bytes.
+pub fn is_word(run: &[u8]) -> bool
     ensures { result ≡ word run.now }
 {
     first_begins_word(run) && are_word_bytes(run) && run.len() <= MAX_WORD_BYTES

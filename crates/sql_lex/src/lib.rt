@@ -11,6 +11,7 @@ mod lexing;
 mod runs;
 mod tokens;
 
-pub use laws::tokens_are_read;
+pub use kinds::is_word;
+pub use laws::{tokens_are_read, words_are_names};
 pub use lexing::lex;
 pub use tokens::{LexError, Mark, Token, TokenKind};

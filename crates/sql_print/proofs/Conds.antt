@@ -67,7 +67,7 @@ an_op : (op : Op) (m : ℕ) → Derives (token comparisons) (λ d. op_of d ≡ o
 an_op op m = a_token comparisons (piece.mark (op_mark op)) (λ d. op_of d ≡ op) m (λ u h holds. (op_kind op u h).0) (λ u i h. (op_kind op u h).1)
 
 a_not : (negated : Bool) (m : ℕ) → Derives (opt (word k.Not)) (λ d. is_there d ≡ negated) m (not_pieces negated)
-a_not true m = as_right (λ d. is_there d ≡ true) (λ more. piece.word (codes "NOT") ∷ more) (a_word (codes "NOT") k.Not m refl (λ u. rw u refl)) (λ a h. refl)
+a_not true m = as_right (λ d. is_there d ≡ true) (λ more. piece.word (codes "NOT") ∷ more) (a_word (codes "NOT") k.Not m refl) (λ a h. refl)
 a_not false m = as_left (λ d. is_there d ≡ false) (λ more. more) (absent Any m tt) (λ a h. refl)
 
 more_literals : (values : List Value) (m : ℕ) → Derives (many (word k.Comma ▸ line g.literal)) (λ d. literals_of d ≡ values) m (behind_each (piece.mark marks.Comma) value_pieces values)
@@ -132,9 +132,9 @@ a_between at negated operand low high m =
     (λ more. expr_pieces operand (not_pieces negated (piece.word (codes "BETWEEN") ∷ expr_pieces low (piece.word (codes "AND") ∷ expr_pieces high more))))
     (pair (expr_pieces operand) (λ more. not_pieces negated (piece.word (codes "BETWEEN") ∷ expr_pieces low (piece.word (codes "AND") ∷ expr_pieces high more))) (an_operand operand m)
     (pair (not_pieces negated) (λ more. piece.word (codes "BETWEEN") ∷ expr_pieces low (piece.word (codes "AND") ∷ expr_pieces high more)) (a_not negated m)
-    (behind (λ more. piece.word (codes "BETWEEN") ∷ more) (λ more. expr_pieces low (piece.word (codes "AND") ∷ expr_pieces high more)) (a_word (codes "BETWEEN") k.Between m refl (λ u. rw u refl))
+    (behind (λ more. piece.word (codes "BETWEEN") ∷ more) (λ more. expr_pieces low (piece.word (codes "AND") ∷ expr_pieces high more)) (a_word (codes "BETWEEN") k.Between m refl)
     (pair (expr_pieces low) (λ more. piece.word (codes "AND") ∷ expr_pieces high more) (an_operand low m)
-    (behind (λ more. piece.word (codes "AND") ∷ more) (expr_pieces high) (a_word (codes "AND") k.And m refl (λ u. rw u refl)) (an_operand high m))))))
+    (behind (λ more. piece.word (codes "AND") ∷ more) (expr_pieces high) (a_word (codes "AND") k.And m refl) (an_operand high m))))))
     (ranged at negated operand low high)) (λ a h. h)
 
 abbrev list_part : Part
@@ -163,7 +163,7 @@ a_list at negated operand v vs m =
     (λ more. expr_pieces operand (not_pieces negated (piece.word (codes "IN") ∷ piece.mark marks.LeftParen ∷ value_pieces v (behind_each (piece.mark marks.Comma) value_pieces vs (piece.mark marks.RightParen ∷ more)))))
     (pair (expr_pieces operand) (λ more. not_pieces negated (piece.word (codes "IN") ∷ piece.mark marks.LeftParen ∷ value_pieces v (behind_each (piece.mark marks.Comma) value_pieces vs (piece.mark marks.RightParen ∷ more)))) (an_operand operand m)
     (pair (not_pieces negated) (λ more. piece.word (codes "IN") ∷ piece.mark marks.LeftParen ∷ value_pieces v (behind_each (piece.mark marks.Comma) value_pieces vs (piece.mark marks.RightParen ∷ more))) (a_not negated m)
-    (behind (λ more. piece.word (codes "IN") ∷ more) (λ more. piece.mark marks.LeftParen ∷ value_pieces v (behind_each (piece.mark marks.Comma) value_pieces vs (piece.mark marks.RightParen ∷ more))) (a_word (codes "IN") k.In m refl (λ u. rw u refl))
+    (behind (λ more. piece.word (codes "IN") ∷ more) (λ more. piece.mark marks.LeftParen ∷ value_pieces v (behind_each (piece.mark marks.Comma) value_pieces vs (piece.mark marks.RightParen ∷ more))) (a_word (codes "IN") k.In m refl)
     (behind (λ more. piece.mark marks.LeftParen ∷ more) (λ more. value_pieces v (behind_each (piece.mark marks.Comma) value_pieces vs (piece.mark marks.RightParen ∷ more))) (a_mark marks.LeftParen k.LeftParen m refl)
     (pair (value_pieces v) (λ more. behind_each (piece.mark marks.Comma) value_pieces vs (piece.mark marks.RightParen ∷ more)) (a_literal v m)
     (pair (behind_each (piece.mark marks.Comma) value_pieces vs) (λ more. piece.mark marks.RightParen ∷ more) (more_literals vs m) (a_mark marks.RightParen k.RightParen m refl)))))))
@@ -187,5 +187,5 @@ a_like at negated operand pattern m =
     (as_right (λ d. OfTests (c.Like at negated operand pattern) (Right (Right d))) (λ more. expr_pieces operand (not_pieces negated (piece.word (codes "LIKE") ∷ piece.text pattern ∷ more)))
     (pair (expr_pieces operand) (λ more. not_pieces negated (piece.word (codes "LIKE") ∷ piece.text pattern ∷ more)) (an_operand operand m)
     (pair (not_pieces negated) (λ more. piece.word (codes "LIKE") ∷ piece.text pattern ∷ more) (a_not negated m)
-    (behind (λ more. piece.word (codes "LIKE") ∷ more) (λ more. piece.text pattern ∷ more) (a_word (codes "LIKE") k.Like m refl (λ u. rw u refl)) (a_text pattern m))))
+    (behind (λ more. piece.word (codes "LIKE") ∷ more) (λ more. piece.text pattern ∷ more) (a_word (codes "LIKE") k.Like m refl) (a_text pattern m))))
     (matched at negated operand pattern)) (λ a h. h)) (λ a h. h)

@@ -86,7 +86,7 @@ negation : (at : ℕ) (x : Cond) (m : ℕ) (f : List Piece → List Piece) → D
 negation at x m f d =
     as_line g.neg (IsN (c.Not at x)) (λ more. piece.word (codes "NOT") ∷ f more)
     (as_left (λ a. IsN (c.Not at x) (By a)) (λ more. piece.word (codes "NOT") ∷ f more)
-    (a_level k.Not (piece.word (codes "NOT")) (λ a. IsN (c.Not at x) (By (Left a))) f (word_kind (codes "NOT") k.Not refl (λ u. rw u refl)) d
+    (a_level k.Not (piece.word (codes "NOT")) (λ a. IsN (c.Not at x) (By (Left a))) f (word_kind (codes "NOT") k.Not refl) d
     (λ t is a h. not_unplaced t.start (neg_of a) ∙ ap (λ (y : Cond). c.Not 0 y) h ∙ sym (not_unplaced at x))) (λ a h. h)) (λ a h. h)
 
 -- ---- members
@@ -122,14 +122,14 @@ more_negs : (m : ℕ) (xs : List Cond) → EachN m xs
 more_negs m [] h = no_more (word k.And ▸ line g.neg) (AreN []) m refl
 more_negs m (x ∷ xs) h =
     one_more (AreN (x ∷ xs)) (λ more. piece.word (codes "AND") ∷ cond_pieces x room.InAnd more) (behind_each (piece.word (codes "AND")) (λ (y : Cond). cond_pieces y room.InAnd) xs)
-    (both (NextN x) (λ more. piece.word (codes "AND") ∷ more) (cond_pieces x room.InAnd) (a_word (codes "AND") k.And m refl (λ u. rw u refl)) h.0 (λ a b i j. j)) (more_negs m xs h.1) (one_n x xs)
+    (both (NextN x) (λ more. piece.word (codes "AND") ∷ more) (cond_pieces x room.InAnd) (a_word (codes "AND") k.And m refl) h.0 (λ a b i j. j)) (more_negs m xs h.1) (one_n x xs)
 
 more_conjs : (m : ℕ) (xs : List Cond) → EachJ m xs
     → Derives (many (word k.Or ▸ line g.conj)) (AreJ xs) m (behind_each (piece.word (codes "OR")) (λ (x : Cond). cond_pieces x room.InOr) xs)
 more_conjs m [] h = no_more (word k.Or ▸ line g.conj) (AreJ []) m refl
 more_conjs m (x ∷ xs) h =
     one_more (AreJ (x ∷ xs)) (λ more. piece.word (codes "OR") ∷ cond_pieces x room.InOr more) (behind_each (piece.word (codes "OR")) (λ (y : Cond). cond_pieces y room.InOr) xs)
-    (both (NextJ x) (λ more. piece.word (codes "OR") ∷ more) (cond_pieces x room.InOr) (a_word (codes "OR") k.Or m refl (λ u. rw u refl)) h.0 (λ a b i j. j)) (more_conjs m xs h.1) (one_j x xs)
+    (both (NextJ x) (λ more. piece.word (codes "OR") ∷ more) (cond_pieces x room.InOr) (a_word (codes "OR") k.Or m refl) h.0 (λ a b i j. j)) (more_conjs m xs h.1) (one_j x xs)
 
 and_joined : (a : Cond) (ds : List Cond) (x y : Cond) (ys : List Cond) → unplaced_cond a ≡ unplaced_cond x → map unplaced_cond ds ≡ map unplaced_cond (y ∷ ys)
     → unplaced_cond (joined c.And a ds) ≡ unplaced_cond (c.And (x ∷ y ∷ ys))

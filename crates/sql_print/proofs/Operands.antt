@@ -1,11 +1,8 @@
 -- Derivations of names, columns and operands.
 use Rattle.std.proofs.Common.{◌≡◌, ◌∙◌, ap, sym, refl, subst, ℕ, ◌≤◌, List, [], ◌∷◌, Bool, true, false, arith, Option, Some, None, ℤ, pos, negsuc, suc, neg_ℤ, IsTrue}
 use Rattle.std.specs.Prelude.{nat_le, ◌==◌, if◌then◌else◌}
-use Rattle.std.specs.Str.{str_to_ascii_lowercase, is_utf8, IsAscii}
-use Rattle.std.specs.List.{list_all}
-use Rattle.std.proofs.lemmas.Str.{is_utf8-from_IsUtf8, IsUtf8-from_ascii}
-use Rattle.std.proofs.lemmas.Str.Ascii.{IsAscii-nil, IsAscii-cons}
-use Rattle.std.proofs.lemmas.Bool.{and_parts, le-leb}
+use Rattle.std.specs.Str.{str_to_ascii_lowercase}
+use Rattle.std.proofs.lemmas.Bool.{le-leb}
 use Rattle.std.proofs.lemmas.Bool.Decides.{nat_tests}
 use Rattle.rpt_base.specs.declared.values.Value.{Value}
 use Rattle.rpt_base.specs.declared.values.Value.TheVariants as v
@@ -37,19 +34,9 @@ self n = grind (arith, nat_tests)
 abbrev pub Any : {p : Part} → Tree p → Type 0
 Any d = Unit {0}
 
--- ASCII is UTF-8
-abbrev pub small : ℕ → Bool
-small b = nat_le b 127
-
-ascii : (bytes : List ℕ) → list_all small bytes ≡ true → IsAscii bytes
-ascii [] h = IsAscii-nil
-ascii (b ∷ bytes) h = let both = and_parts (small b) (list_all small bytes) h in IsAscii-cons b bytes (let e = both.0 in grind (arith, nat_tests)) (ascii bytes both.1)
-
-pub word_kind : (w : List ℕ) (kind : Kind) → list_all small (str_to_ascii_lowercase w) ≡ true
-    → (is_utf8 (str_to_ascii_lowercase w) ≡ true → kind_by (t.Word (str_to_ascii_lowercase w)) ≡ kind) → (u : Token) → u.kind ≡ token_of (piece.word w) → kind_of u ≡ kind
+pub word_kind : (w : List ℕ) (kind : Kind) → kind_by (t.Word (str_to_ascii_lowercase w)) ≡ kind → (u : Token) → u.kind ≡ token_of (piece.word w) → kind_of u ≡ kind
 unfolding kind_of
-word_kind w kind few is u h =
-    ap kind_by h ∙ is (is_utf8-from_IsUtf8 (str_to_ascii_lowercase w) (IsUtf8-from_ascii (str_to_ascii_lowercase w) (ascii (str_to_ascii_lowercase w) few)))
+word_kind w kind is u h = ap kind_by h ∙ is
 
 pub mark_kind : (written : Mark) (kind : Kind) → kind_of_mark written ≡ kind → (u : Token) → u.kind ≡ token_of (piece.mark written) → kind_of u ≡ kind
 unfolding kind_of
@@ -59,9 +46,8 @@ among_one : (kind : Kind) (u : Token) → kind_of u ≡ kind → among (kind ∷
 among_one kind u h = subst (λ (x : Kind). among (kind ∷ []) x ≡ true) (sym h) (self (code kind))
 
 -- a keyword
-pub a_word : (w : List ℕ) (kind : Kind) (m : ℕ) → list_all small (str_to_ascii_lowercase w) ≡ true
-    → (is_utf8 (str_to_ascii_lowercase w) ≡ true → kind_by (t.Word (str_to_ascii_lowercase w)) ≡ kind) → Derives (word kind) Any m (λ more. piece.word w ∷ more)
-a_word w kind m few is = a_token (kind ∷ []) (piece.word w) Any m (λ u h holds. among_one kind u (word_kind w kind few is u h)) (λ u i h. tt)
+pub a_word : (w : List ℕ) (kind : Kind) (m : ℕ) → kind_by (t.Word (str_to_ascii_lowercase w)) ≡ kind → Derives (word kind) Any m (λ more. piece.word w ∷ more)
+a_word w kind m is = a_token (kind ∷ []) (piece.word w) Any m (λ u h holds. among_one kind u (word_kind w kind is u h)) (λ u i h. tt)
 
 -- a mark
 pub a_mark : (written : Mark) (kind : Kind) (m : ℕ) → kind_of_mark written ≡ kind → Derives (word kind) Any m (λ more. piece.mark written ∷ more)

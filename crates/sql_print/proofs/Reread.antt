@@ -44,7 +44,7 @@ IsNamed n (Both keyword d) = (named d).name ≡ n
 a_renaming : (n : List ℕ) (m : ℕ) → Derives renamed (IsNamed n) m (λ more. piece.word (codes "AS") ∷ piece.name n ∷ more)
 a_renaming n m =
     both (IsNamed n) (λ more. piece.word (codes "AS") ∷ more) (λ more. piece.name n ∷ more)
-    (as_right Any (λ more. piece.word (codes "AS") ∷ more) (a_word (codes "AS") k.As m refl (λ u. rw u refl)) (λ a h. tt)) (a_name n m) (λ a b h i. i)
+    (as_right Any (λ more. piece.word (codes "AS") ∷ more) (a_word (codes "AS") k.As m refl) (λ a h. tt)) (a_name n m) (λ a b h i. i)
 
 some_title : (n : List ℕ) (d : Tree renamed) → IsNamed n d → title_of (alias_of (Right d)) ≡ Some n
 some_title n (Both keyword d) h = ap (λ (x : List ℕ). Some x) h
@@ -148,9 +148,9 @@ unfolding join_pieces
 a_join source on m formed le =
     derives_good (join_pieces source on) (joined_good source on)
     (behind (λ more. more) (join_pieces source on) (as_left Any (λ more. more) (absent Any m tt) (λ a h. tt))
-    (behind (λ more. piece.word (codes "JOIN") ∷ more) (λ more. factor_pieces source (piece.word (codes "ON") ∷ cond_pieces on room.Whole more)) (a_word (codes "JOIN") k.Join m refl (λ u. rw u refl))
+    (behind (λ more. piece.word (codes "JOIN") ∷ more) (λ more. factor_pieces source (piece.word (codes "ON") ∷ cond_pieces on room.Whole more)) (a_word (codes "JOIN") k.Join m refl)
     (pair (factor_pieces source) (λ more. piece.word (codes "ON") ∷ cond_pieces on room.Whole more) (a_factor source m)
-    (behind (λ more. piece.word (codes "ON") ∷ more) (cond_pieces on room.Whole) (a_word (codes "ON") k.On m refl (λ u. rw u refl)) (a_condition on m formed le)))))
+    (behind (λ more. piece.word (codes "ON") ∷ more) (cond_pieces on room.Whole) (a_word (codes "ON") k.On m refl) (a_condition on m formed le)))))
 
 -- joined sources, and then others behind commas
 abbrev following : Part
@@ -311,7 +311,7 @@ a_filter : (filter : Option Cond) (m : ℕ) → IsFilter filter → filter_level
 a_filter None m formed le = as_left (IsWhere None) (λ more. more) (absent Any m tt) (λ a h. refl)
 a_filter (Some x) m formed le =
     as_right (IsWhere (Some x)) (λ more. piece.word (codes "WHERE") ∷ cond_pieces x room.Whole more)
-    (behind (λ more. piece.word (codes "WHERE") ∷ more) (cond_pieces x room.Whole) (a_word (codes "WHERE") k.Where m refl (λ u. rw u refl)) (a_condition x m formed le)) (where_good x)
+    (behind (λ more. piece.word (codes "WHERE") ∷ more) (cond_pieces x room.Whole) (a_word (codes "WHERE") k.Where m refl) (a_condition x m formed le)) (where_good x)
 
 abbrev grouped : Part
 grouped = word k.Select ▸ line g.items ▸ word k.From ▸ from_part ▸ opt where_part
@@ -345,16 +345,16 @@ a_select : (select : Select) (m : ℕ) → AreItems select.items → IsFrom sele
 a_select select m items sources filter le le' =
     as_line g.select (IsSelect select) (select_pieces select)
     (reshaped (select_pieces select) flat flat_text flat_depth (flat_good select)
-    (behind (λ more. piece.word (codes "SELECT") ∷ more) (λ more. items_pieces select.items (piece.word (codes "FROM") ∷ sources_pieces select.sources (filter_pieces select.filter more))) (a_word (codes "SELECT") k.Select m refl (λ u. rw u refl))
+    (behind (λ more. piece.word (codes "SELECT") ∷ more) (λ more. items_pieces select.items (piece.word (codes "FROM") ∷ sources_pieces select.sources (filter_pieces select.filter more))) (a_word (codes "SELECT") k.Select m refl)
     (pair (items_pieces select.items) (λ more. piece.word (codes "FROM") ∷ sources_pieces select.sources (filter_pieces select.filter more)) (the_items select.items m items)
-    (behind (λ more. piece.word (codes "FROM") ∷ more) (λ more. sources_pieces select.sources (filter_pieces select.filter more)) (a_word (codes "FROM") k.From m refl (λ u. rw u refl))
+    (behind (λ more. piece.word (codes "FROM") ∷ more) (λ more. sources_pieces select.sources (filter_pieces select.filter more)) (a_word (codes "FROM") k.From m refl)
     (pair (sources_pieces select.sources) (filter_pieces select.filter) (from select.sources m sources le) (a_filter select.filter m filter le')))))) (λ a h. h)
 
 -- ---- what is declared
 
 type_kind : (kind : ColumnType) (u : Token) → u.kind ≡ token_of (piece.word (type_word kind)) → (among types (kind_of u) ≡ true) × (type_by (kind_of u) ≡ kind)
-type_kind column_type.Int u h = let e = word_kind (codes "INT") k.Int refl (λ v. rw v refl) u h in (subst (λ (x : Kind). among types x ≡ true) (sym e) refl, ap type_by e)
-type_kind column_type.Text u h = let e = word_kind (codes "TEXT") k.TextType refl (λ v. rw v refl) u h in (subst (λ (x : Kind). among types x ≡ true) (sym e) refl, ap type_by e)
+type_kind column_type.Int u h = let e = word_kind (codes "INT") k.Int refl u h in (subst (λ (x : Kind). among types x ≡ true) (sym e) refl, ap type_by e)
+type_kind column_type.Text u h = let e = word_kind (codes "TEXT") k.TextType refl u h in (subst (λ (x : Kind). among types x ≡ true) (sym e) refl, ap type_by e)
 
 a_type : (kind : ColumnType) (m : ℕ) → Derives (token types) (λ d. type_of d ≡ kind) m (λ more. piece.word (type_word kind) ∷ more)
 a_type kind m = a_token types (piece.word (type_word kind)) (λ d. type_of d ≡ kind) m (λ u h holds. (type_kind kind u h).0) (λ u is h. (type_kind kind u h).1)
@@ -415,10 +415,10 @@ a_table_of n column columns m =
     (derives_good (columns_pieces n column columns) (table_good n column columns)
     (behind (λ more. piece.word (codes "CREATE") ∷ more)
     (λ more. piece.word (codes "TABLE") ∷ piece.name n ∷ piece.mark marks.LeftParen ∷ declared_pieces column (behind_each (piece.mark marks.Comma) declared_pieces columns (piece.mark marks.RightParen ∷ piece.mark marks.Semicolon ∷ more)))
-    (a_word (codes "CREATE") k.Create m refl (λ u. rw u refl))
+    (a_word (codes "CREATE") k.Create m refl)
     (behind (λ more. piece.word (codes "TABLE") ∷ more)
     (λ more. piece.name n ∷ piece.mark marks.LeftParen ∷ declared_pieces column (behind_each (piece.mark marks.Comma) declared_pieces columns (piece.mark marks.RightParen ∷ piece.mark marks.Semicolon ∷ more)))
-    (a_word (codes "TABLE") k.Table m refl (λ u. rw u refl))
+    (a_word (codes "TABLE") k.Table m refl)
     (pair (λ more. piece.name n ∷ more)
     (λ more. piece.mark marks.LeftParen ∷ declared_pieces column (behind_each (piece.mark marks.Comma) declared_pieces columns (piece.mark marks.RightParen ∷ piece.mark marks.Semicolon ∷ more)))
     (a_name n m)
