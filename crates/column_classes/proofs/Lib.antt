@@ -1,4 +1,5 @@
 mod ClassFacts
+mod Existence
 mod LabelFacts
 mod OrderedLists
 mod PairFacts

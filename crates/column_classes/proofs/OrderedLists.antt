@@ -59,24 +59,22 @@ module _ {X : Type 0} (Before : X → X → Type 0) (not_both : (x y : X) → Be
       (λ z c. same-rest y x z ys xs (sym e) ry (back z (contains-later y z ys c)) c) in
       rw (e, rest) refl
 
--- numbers below m that are related to 0, 1 and so on
-collect : (R : ℕ → ℕ → Type 0) (m n : ℕ) → ((k : ℕ) → k < n → (c : ℕ) × (c < m) × R k c)
-    → (cs : List ℕ) × (length cs ≡ n) × ((k d : ℕ) → k < n → (get_or cs k d < m) × R k (get_or cs k d))
-collect R m zero some = ([], refl, λ k d lt. absurd (omega arith))
-collect R m (suc n) some =
+-- the members of a list, where there is one for each place
+pub collect : {X : Type 0} (P : ℕ → X → Type 0) (n : ℕ) → ((k : ℕ) → k < n → (x : X) × P k x) → (xs : List X) × (length xs ≡ n) × ((k : ℕ) (d : X) → k < n → P k (get_or xs k d))
+collect P zero some = ([], refl, λ k d lt. absurd (omega arith))
+collect {X} P (suc n) some =
     let first = some zero (omega arith) in
-    let rest = collect (λ k c. R (suc k) c) m n (λ k lt. some (suc k) (omega arith)) in
-    (first.0 ∷ rest.0, omega (arith, rest.1), at first.0 rest.0 first.1 first.2 rest.2)
+    let rest = collect (λ k x. P (suc k) x) n (λ k lt. some (suc k) (omega arith)) in
+    (first.0 ∷ rest.0, omega (arith, rest.1), at first.0 rest.0 first.1 rest.2)
   where
-    at : (c : ℕ) (cs : List ℕ) → c < m → R zero c → ((k d : ℕ) → k < n → (get_or cs k d < m) × R (suc k) (get_or cs k d))
-        → (k d : ℕ) → k < suc n → (get_or (c ∷ cs) k d < m) × R k (get_or (c ∷ cs) k d)
-    at c cs lt r rest zero d within = (lt, r)
-    at c cs lt r rest (suc k) d within = rest k d (omega arith)
+    at : (x : X) (xs : List X) → P zero x → ((k : ℕ) (d : X) → k < n → P (suc k) (get_or xs k d)) → (k : ℕ) (d : X) → k < suc n → P k (get_or (x ∷ xs) k d)
+    at x xs p rest zero d within = p
+    at x xs p rest (suc k) d within = rest k d (omega arith)
 
 -- if each number below n is related to one below m, and no two to the same, then n is at most m
 pub le-from-apart : (R : ℕ → ℕ → Type 0) (m n : ℕ) → ((i j c : ℕ) → i < j → j < n → R i c → R j c → ⊥) → ((k : ℕ) → k < n → (c : ℕ) × (c < m) × R k c) → n ≤ m
 le-from-apart R m n apart some =
-    let cs = collect R m n some in
+    let cs = collect (λ k c. (c < m) × R k c) n (λ k lt. (let s = some k lt in (s.0, (s.1, s.2)))) in
     let long : length cs.0 ≡ n = cs.1 in
     let differ : AllPairs (λ x y. x ≢ y) cs.0 = λ i j d lt within e.
     (let second : R j (get_or cs.0 j d) = (cs.2 j d (omega arith)).1 in

@@ -7,7 +7,9 @@
 
 mod classes;
 mod columns;
+mod laws;
 mod variables;
 
 pub use columns::{ColumnRef, Equality};
+pub use laws::has_variables;
 pub use variables::Variables;

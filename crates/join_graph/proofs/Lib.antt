@@ -1,3 +1,5 @@
+mod BestFacts
+pub mod BestOf
 pub mod JoinChecks
 pub mod ListFacts
 pub mod MemberFacts
@@ -6,5 +8,6 @@ mod NeededSteps
 mod StoredFacts
 pub mod SumFacts
 mod TreeFacts
+pub mod Unlisted
 pub mod WeightFacts
 pub mod WorkedRows

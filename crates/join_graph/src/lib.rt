@@ -10,8 +10,10 @@
 #![tactic(auto)]
 
 mod graph;
+mod laws;
 mod shared;
 mod tree;
 
 pub use graph::Graph;
+pub use laws::has_best;
 pub use tree::{Link, Tree};

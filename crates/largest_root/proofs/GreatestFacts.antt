@@ -29,7 +29,7 @@ module _ (w : ℕ → ℕ → ℕ) (size : ℕ → ℕ) where
   steep_from_greedy set listed (l ∷ ls) g =
       (g.1, λ i j a b c. weight-NotBefore i j l.child l.parent (g.3 i j a b c), steep_from_greedy set (l.child ∷ listed) ls g.4)
 
-  extends_from_greedy : (n : ℕ) (set : ℕ → Bool) (listed : List ℕ) (ls : List Link) → ((r : ℕ) → set r ≡ true → r < n)
+  pub extends_from_greedy : (n : ℕ) (set : ℕ → Bool) (listed : List ℕ) (ls : List Link) → ((r : ℕ) → set r ≡ true → r < n)
       → Greedy w size set listed ls → Extends n listed ls
   extends_from_greedy n set listed [] below g = tt
   extends_from_greedy n set listed (l ∷ ls) below g = (below l.child g.0, g.1, g.2, extends_from_greedy n set (l.child ∷ listed) ls below g.4)

@@ -8,5 +8,7 @@ pub mod HeaviestFacts
 pub mod JoinFacts
 pub mod ListedFacts
 pub mod OneList
+pub mod SomeList
+mod SomeTree
 mod TreeFacts
 pub mod WorkedRows

@@ -11,10 +11,12 @@
 
 mod errors;
 mod growth;
+mod laws;
 mod links;
 mod parents;
 mod roots;
 mod tree;
 
 pub use errors::TreeError;
+pub use laws::{has_grown_tree, has_tree};
 pub use tree::{grow, join_tree};

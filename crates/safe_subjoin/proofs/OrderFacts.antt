@@ -39,15 +39,21 @@ module _ (n : ℕ) (order : List ℕ) (is_order : IsOrder n order) where
       ltb-true _ n (sym (is_order.all (get_or order i d)) ∙ list_any_at (λ y. eqb (get_or order i d) y) order i d l (eq-eqb _ _ refl)) in
       omega arith
 
+  -- a prefix has relations of the order alone
+  pub prefix-below : (k q : ℕ) → first_of order k q ≡ true → q < n
+  prefix-below k q h = ltb-true q n (sym (is_order.all q) ∙ take-has q k order h)
+
+  -- and has the last that was put to it
+  pub prefix-last : (i : ℕ) → i < length order → first_of order (i + 1) (get_or order i 0) ≡ true
+  prefix-last i inside =
+      list_any_more (λ y. eqb (get_or order i 0) y) order i 0 inside ∙ or_right _ (eqb (get_or order i 0) (get_or order i 0)) (eq-eqb _ _ refl)
+
   module _ (i : ℕ) (t : RelSet) (same : (q : ℕ) → set_of t q ≡ first_of order (i + 1) q) where
     -- a prefix that is not empty is a set of some relations
     pub prefix-set : i < length order → IsSetOf n t
     prefix-set inside = record {
-      within = λ q h. ltb-true q n (sym (is_order.all q) ∙ take-has q (i + 1) order (sym (same q) ∙ h));
-      some = (
-        get_or order i 0,
-        same (get_or order i 0) ∙ list_any_more (λ y. eqb (get_or order i 0) y) order i 0 inside ∙ or_right _ (eqb (get_or order i 0) (get_or order i 0)) (eq-eqb _ _ refl),
-      );
+      within = λ q h. prefix-below (i + 1) q (sym (same q) ∙ h);
+      some = (get_or order i 0, same (get_or order i 0) ∙ prefix-last i inside);
     }
 
 -- the set of a prefix is the prefix

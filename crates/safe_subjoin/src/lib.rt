@@ -10,9 +10,11 @@
 #![tactic(auto)]
 
 mod errors;
+mod laws;
 mod orders;
 mod sets;
 
 pub use errors::{OrderError, SetError};
+pub use laws::{has_first_unsafe, has_safe_lists};
 pub use orders::{safe_lists, safe_order};
 pub use sets::safe_set;

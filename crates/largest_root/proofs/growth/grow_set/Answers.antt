@@ -2,7 +2,8 @@ use Rattle.std.proofs.Common.{rules, ◌≡◌, ◌<◌, [], ◌∷◌, ◌++◌
 use Rattle.std.specs.Result.{is_ok}
 use Rattle.join_graph.specs.JoinList.{listed_by, set_of}
 use Rattle.largest_root.specs.Steps.{IsBestOf, IsUsedUp}
-use Rattle.largest_root.proofs.GrowthFacts.{unlisted, steps-more, steps-end, unlisted-falls}
+use Rattle.join_graph.proofs.Unlisted.{unlisted}
+use Rattle.largest_root.proofs.GrowthFacts.{steps-more, steps-end, unlisted-falls}
 use Rattle.largest_root.proofs.growth.grow_set.Goals as goal
 
 best : (c : goal.Else-is_err) → IsBestOf c.args.graph.now c.args.sizes.now (set_of c.args.set) (listed_by (c.args.root ∷ []) c.loop-link.links.items) (length c.args.graph.now) c.in-Some.link

@@ -2,7 +2,8 @@ use Rattle.std.proofs.Common.{◌≡◌, List, [], ◌∷◌, ◌++◌, length, 
 use Rattle.join_graph.specs.declared.tree.Link.{Link}
 use Rattle.join_graph.specs.JoinList.{listed_by, set_of}
 use Rattle.join_graph.specs.Weights.{weight_of}
-use Rattle.largest_root.proofs.GrowthFacts.{GreedySteps, unlisted}
+use Rattle.join_graph.proofs.Unlisted.{unlisted}
+use Rattle.largest_root.proofs.GrowthFacts.{GreedySteps}
 use Rattle.largest_root.proofs.growth.grow_set.Given as goal
 
 abbrev pub invariant-loop-link : goal.invariant-loop-link
