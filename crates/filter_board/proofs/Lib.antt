@@ -9,5 +9,6 @@ mod MarkFacts
 mod Moves
 mod Offsets
 mod PutFacts
+mod RunFacts
 mod ShareFacts
 mod WordFacts

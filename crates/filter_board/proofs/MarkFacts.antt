@@ -1,6 +1,10 @@
 -- Marks of pipes, and masks.
-use Rattle.std.proofs.Common.{◌≡◌, ℕ, zero, suc, ◌<◌, List, [], ◌∷◌, length, get_or, Bool, true, false, ◌||◌, refl, arith}
+use Rattle.std.proofs.Common.{◌≡◌, ℕ, zero, suc, ◌<◌, List, [], ◌∷◌, length, get_or, Bool, true, false, ◌||◌, refl, sym, ap, ◌∙◌, arith}
+use Rattle.std.specs.Prelude.{bit_or}
+use Rattle.std.specs.Int.Bits.{or_zero_r}
+use Rattle.std.proofs.lemmas.Nat.Bits.{bit_at_or, same_from_bits}
 use Rattle.transfer_core.specs.Actors.{is_marked}
+use Rattle.filter_board.specs.Runs.{with_masks}
 use Rattle.filter_board.specs.Shares.{either}
 
 pub or_true : (b c : Bool) (F : Type 0) → (b ≡ true → F) → (c ≡ true → F) → b || c ≡ true → F
@@ -25,3 +29,15 @@ either_is (x ∷ xs) b [] e f h = absurd (omega arith)
 either_is [] b (z ∷ zs) e f h = absurd (omega arith)
 either_is (x ∷ xs) [] (z ∷ zs) e f h = absurd (omega arith)
 either_is (x ∷ xs) (y ∷ ys) (z ∷ zs) e f h = λ i. h 0 (omega arith) i ∷ either_is xs ys zs (omega arith) (omega arith) (λ k l. h (suc k) (omega arith)) i
+
+-- ---- masks that are or'd into a number
+or_assoc : (a b c : ℕ) → bit_or (bit_or a b) c ≡ bit_or a (bit_or b c)
+or_assoc a b c = same_from_bits _ _ (λ i. omega (arith, bit_at_or (bit_or a b) c i, bit_at_or a b i, bit_at_or a (bit_or b c) i, bit_at_or b c i))
+
+or_first : (mask : ℕ → ℕ) (a b : ℕ) (items : List ℕ) → with_masks mask (bit_or a b) items ≡ bit_or a (with_masks mask b items)
+or_first mask a b [] = refl
+or_first mask a b (i ∷ items) = ap (λ (n : ℕ). with_masks mask n items) (or_assoc a b (mask i)) ∙ or_first mask a (bit_or b (mask i)) items
+
+-- one after the other, or all at once
+pub or_masks : (mask : ℕ → ℕ) (n : ℕ) (items : List ℕ) → with_masks mask n items ≡ bit_or n (with_masks mask 0 items)
+or_masks mask n items = ap (λ (k : ℕ). with_masks mask k items) (sym (or_zero_r n)) ∙ or_first mask n 0 items

@@ -1,10 +1,10 @@
 -- Each kind of step on a table keeps a sound board, as the table's calls ask.
-use Rattle.std.proofs.Common.{◌≡◌, ℕ, ◌+◌, ◌/◌, ◌%◌, ◌^◌, ◌<◌, ◌≤◌, List, [], length, sym, refl, ap, ◌∙◌, subst, set, get_or, false, arith}
+use Rattle.std.proofs.Common.{◌≡◌, ℕ, ◌+◌, ◌%◌, ◌^◌, ◌<◌, ◌≤◌, List, [], All, length, sym, refl, ap, ◌∙◌, subst, set, get_or, false, arith}
 use Rattle.std.specs.Prelude.{bit_or}
 use Rattle.std.proofs.lemmas.List.{set-get_or}
 use Rattle.atomic_table.specs.Table.{State, Me, keeps, opening, Allows, Splits, Joins, Seen, Final}
 use Rattle.transfer_core.specs.Actors.{Holds, HasSeen, HoldsNone, is_marked}
-use Rattle.transfer_core.specs.Job.{IsPassing, IsRight, IsWord, job_of}
+use Rattle.transfer_core.specs.Job.{IsRight, IsWord, job_of}
 use Rattle.transfer_core.specs.Plans.{Shape}
 use Rattle.transfer_core.specs.Sealed.{sealed}
 use Rattle.transfer_core.specs.Sound.{HasSeenReads}
@@ -12,11 +12,12 @@ use Rattle.transfer_core.specs.Steps.{ListsAllPuts}
 use Rattle.filter_board.specs.declared.share.Share.{Share}
 use Rattle.filter_board.specs.Layout.{done_of, index_of, word_count}
 use Rattle.filter_board.specs.Rule.{IsSoundBoard}
-use Rattle.filter_board.specs.Shares.{HasFinishedBelow, HasFinishedOnce, IsTold, after_draw, after_find, after_finish, after_look, after_put, fresh, joined, less, piece, spent}
+use Rattle.filter_board.specs.Runs.{MayPut, with_masks}
+use Rattle.filter_board.specs.Shares.{HasFinishedBelow, HasFinishedOnce, IsTold, after_draw, after_find, after_finish, after_look, after_puts, fresh, joined, less, piece, spent}
 use Rattle.filter_board.proofs.DrawFacts.{draw_rises, draw_room, sound_drawn}
 use Rattle.filter_board.proofs.FinishFacts.{finish_room, sound_finished}
 use Rattle.filter_board.proofs.LookFacts.{alone_full, sealed_seen, sound_looked, sound_same, stands_once}
-use Rattle.filter_board.proofs.PutFacts.{sound_found, sound_put}
+use Rattle.filter_board.proofs.PutFacts.{sound_found, sound_run}
 use Rattle.filter_board.proofs.ShareFacts.{sound_join, sound_split, sound_start}
 
 abbrev Kept : Shape → ℕ → State (Unit {0}) Share → Type 0
@@ -46,16 +47,18 @@ module _ (s : Shape) (R : IsRight (job_of s)) (parts : ℕ) where
         (refl, draw_rises s R parts t.words t.views f id me.0 at p less),
       )
 
-  puts : (n id : ℕ) (me : Seat) (p i q : ℕ) → Holds me.0.actor p (i / s.morsel) → IsPassing (job_of s) p i q → 0 < me.0.parts
-      → Allows (Kept s parts) n id me (index_of s ((job_of s).region p q) ((job_of s).word p i q)) (λ w. bit_or w ((job_of s).mask p i q)) (λ r after. after ≡ (after_put i q me.0, me.1))
-  puts n id me p i q held item part t f wide at _ = (after_put i q me.0, keeps, tt, sound_put s R parts t.words t.views f id me.0 at p i q held item part, refl)
+  puts : (n id : ℕ) (me : Seat) (p q c mask : ℕ) (items : List ℕ) → mask ≡ with_masks (λ i. (job_of s).mask p i q) 0 items → 0 < me.0.parts → c < word_count s
+      → All (MayPut (job_of s) p q me.0.actor) items → All (λ i. c ≡ index_of s ((job_of s).region p q) ((job_of s).word p i q)) items
+      → Allows (Kept s parts) n id me c (λ w. bit_or w mask) (λ r after. after ≡ (after_puts items q me.0, me.1))
+  puts n id me p q c mask items is part small may here t f wide at _ =
+      (after_puts items q me.0, keeps, tt, sound_run s R parts p q c items mask is t.words t.views f id me.0 at part small may here, refl)
 
-  finds : (n id : ℕ) (me : Seat) (p i q : ℕ) → Holds me.0.actor p (i / s.morsel) → IsPassing (job_of s) p i q → 0 < me.0.parts
-      → Allows (Kept s parts) n id me (index_of s ((job_of s).region p q) ((job_of s).word p i q)) (λ w. w) (λ r after. after ≡ (after_find i q ((job_of s).mask p i q) me.0 r, me.1))
-  finds n id me p i q held item part t f wide at _ =
-      let c : ℕ = index_of s ((job_of s).region p q) ((job_of s).word p i q) in
-      let h : Share = after_find i q ((job_of s).mask p i q) me.0 (get_or t.words c 0) in
-      (h, keeps, tt, unmoved s parts t c id h (sound_found s R parts t.words t.views f id me.0 at p i q held item part), refl)
+  finds : (n id : ℕ) (me : Seat) (p q c mask : ℕ) (items : List ℕ) → mask ≡ with_masks (λ i. (job_of s).mask p i q) 0 items → 0 < me.0.parts → c < word_count s
+      → All (MayPut (job_of s) p q me.0.actor) items → All (λ i. c ≡ index_of s ((job_of s).region p q) ((job_of s).word p i q)) items
+      → Allows (Kept s parts) n id me c (λ w. w) (λ r after. after ≡ (after_find items q mask me.0 r, me.1))
+  finds n id me p q c mask items is part small may here t f wide at _ =
+      let h : Share = after_find items q mask me.0 (get_or t.words c 0) in
+      (h, keeps, tt, unmoved s parts t c id h (sound_found s R parts p q c items mask is t.words t.views f id me.0 at part small may here), refl)
 
   finishes : (n id : ℕ) (me : Seat) (p m : ℕ) → (job_of s).morsels p < 2 ^ 32 → Holds me.0.actor p m → 0 < me.0.parts → ListsAllPuts (job_of s) p m me.0.actor
       → Allows (Kept s parts) n id me (length s.pipes + p) (λ i. (i + 1) % 2 ^ 64) (λ r after. after ≡ (after_finish me.0, me.1))
@@ -98,17 +101,19 @@ module _ (a b : Shape) (m n : ℕ) (R : IsRight (job_of b)) (same : a ≡ b) (pa
       subst (λ (x : Shape × ℕ × ℕ × ℕ). Allows (Kept x.0 x.1) slots id me p (λ i. (i + 1) % 2 ^ 64) (λ r after. (after ≡ (after_draw x.2 x.3 me.0 r, me.1)) × HasFinishedBelow r x.2 me.0.actor)) (λ y. (sym same y, sym parts y, sym e y, sym h y))
       (draws b R n slots id me p less (omega (arith, small, h)) free part ready untold inside)
 
-  pub puts_as : (slots id : ℕ) (me : Seat) (p i q at mask one two : ℕ) → one ≡ i → two ≡ q → at ≡ index_of b ((job_of b).region p q) ((job_of b).word p i q) → mask ≡ (job_of b).mask p i q → Holds me.0.actor p (i / b.morsel) → IsPassing (job_of b) p i q → 0 < me.0.parts
-      → Allows (Kept a m) slots id me at (λ w. bit_or w mask) (λ r after. after ≡ (after_put one two me.0, me.1))
-  puts_as slots id me p i q at mask one two e h c d held item part =
-      subst (λ (x : Shape × ℕ × ℕ × ℕ × ℕ × ℕ). Allows (Kept x.0 x.1) slots id me x.2 (λ w. bit_or w x.3) (λ r after. after ≡ (after_put x.4 x.5 me.0, me.1))) (λ y. (sym same y, sym parts y, sym c y, sym d y, sym e y, sym h y))
-      (puts b R n slots id me p i q held item part)
+  pub puts_as : (slots id : ℕ) (me : Seat) (p q c mask two : ℕ) (items one : List ℕ) → one ≡ items → two ≡ q → mask ≡ with_masks (λ i. (job_of b).mask p i q) 0 items → 0 < me.0.parts → c < word_count b
+      → All (MayPut (job_of b) p q me.0.actor) items → All (λ i. c ≡ index_of b ((job_of b).region p q) ((job_of b).word p i q)) items
+      → Allows (Kept a m) slots id me c (λ w. bit_or w mask) (λ r after. after ≡ (after_puts one two me.0, me.1))
+  puts_as slots id me p q c mask two items one e h is part small may here =
+      subst (λ (x : Shape × ℕ × List ℕ × ℕ). Allows (Kept x.0 x.1) slots id me c (λ w. bit_or w mask) (λ r after. after ≡ (after_puts x.2 x.3 me.0, me.1))) (λ y. (sym same y, sym parts y, sym e y, sym h y))
+      (puts b R n slots id me p q c mask items is part small may here)
 
-  pub finds_as : (slots id : ℕ) (me : Seat) (p i q at mask one two three : ℕ) → one ≡ i → two ≡ q → three ≡ mask → at ≡ index_of b ((job_of b).region p q) ((job_of b).word p i q) → mask ≡ (job_of b).mask p i q → Holds me.0.actor p (i / b.morsel) → IsPassing (job_of b) p i q → 0 < me.0.parts
-      → Allows (Kept a m) slots id me at (λ w. w) (λ r after. after ≡ (after_find one two three me.0 r, me.1))
-  finds_as slots id me p i q at mask one two three e h g c d held item part =
-      subst (λ (x : Shape × ℕ × ℕ × ℕ × ℕ × ℕ). Allows (Kept x.0 x.1) slots id me x.2 (λ w. w) (λ r after. after ≡ (after_find x.3 x.4 x.5 me.0 r, me.1))) (λ y. (sym same y, sym parts y, sym c y, sym e y, sym h y, sym (g ∙ d) y))
-      (finds b R n slots id me p i q held item part)
+  pub finds_as : (slots id : ℕ) (me : Seat) (p q c mask two three : ℕ) (items one : List ℕ) → one ≡ items → two ≡ q → three ≡ mask → mask ≡ with_masks (λ i. (job_of b).mask p i q) 0 items → 0 < me.0.parts → c < word_count b
+      → All (MayPut (job_of b) p q me.0.actor) items → All (λ i. c ≡ index_of b ((job_of b).region p q) ((job_of b).word p i q)) items
+      → Allows (Kept a m) slots id me c (λ w. w) (λ r after. after ≡ (after_find one two three me.0 r, me.1))
+  finds_as slots id me p q c mask two three items one e h g is part small may here =
+      subst (λ (x : Shape × ℕ × List ℕ × ℕ × ℕ). Allows (Kept x.0 x.1) slots id me c (λ w. w) (λ r after. after ≡ (after_find x.2 x.3 x.4 me.0 r, me.1))) (λ y. (sym same y, sym parts y, sym e y, sym h y, sym g y))
+      (finds b R n slots id me p q c mask items is part small may here)
 
   pub finishes_as : (slots id : ℕ) (me : Seat) (p k at : ℕ) → at ≡ length b.pipes + p → (job_of b).morsels p < 2 ^ 32 → Holds me.0.actor p k → 0 < me.0.parts → ListsAllPuts (job_of b) p k me.0.actor
       → Allows (Kept a m) slots id me at (λ i. (i + 1) % 2 ^ 64) (λ r after. after ≡ (after_finish me.0, me.1))

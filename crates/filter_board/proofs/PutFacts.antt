@@ -1,23 +1,26 @@
--- A put keeps a sound board.
-use Rattle.std.proofs.Common.{◌≡◌, ◌⊎◌, inl, inr, ⊎_elim, ℕ, ◌/◌, ◌<◌, ◌≤◌, List, [], ◌∷◌, ◌++◌, length, set, Bool, true, false, if◌then◌else◌, sym, refl, ap, ◌∙◌, subst, arith, length-set}
+-- A put, and the puts of a run of items, keep a sound board.
+use Rattle.std.proofs.Common.{◌≡◌, ◌⊎◌, inl, inr, ⊎_elim, ℕ, suc, ◌/◌, ◌<◌, ◌≤◌, List, [], ◌∷◌, ◌++◌, length, get_or, set, All, Bool, true, false, if◌then◌else◌, sym, refl, ap, ◌∙◌, subst, arith, length-set, get_or-set_same, set-set}
 use Rattle.std.specs.Prelude.{◌==◌, bit_and, bit_or}
 use Rattle.std.specs.Int.Bits.{or_add_and}
 use Rattle.std.proofs.lemmas.Bool.{cases_Bool, eqb-true}
 use Rattle.std.proofs.lemmas.List.{set-get_or}
 use mathlib.Core.Option.{some}
 use lib.ListN.{get_elem?}
+use Rattle.atomic_table.proofs.Lists.{set_here}
 use Rattle.transfer_core.specs.Actors.{Holds, holding, is_listed}
 use Rattle.transfer_core.specs.Job.{IsPassing, IsRight, IsWord, job_of}
 use Rattle.transfer_core.specs.Plans.{Shape}
 use Rattle.transfer_core.specs.Sound.{IsSound}
 use Rattle.transfer_core.proofs.Keeps.{each_set, puts}
-use Rattle.transfer_core.proofs.Lists.{at_snoc}
+use Rattle.transfer_core.proofs.Lists.{at_snoc, within}
 use Rattle.transfer_core.proofs.Sums.{total-set}
 use Rattle.filter_board.specs.declared.share.Share.{Share}
-use Rattle.filter_board.specs.Layout.{done_of, drawn_of, index_of, regions_in}
+use Rattle.filter_board.specs.Layout.{done_of, drawn_of, index_of, regions_in, word_count}
 use Rattle.filter_board.specs.Rule.{IsSoundBoard, IsSoundShare, actors_of, told_parts}
-use Rattle.filter_board.specs.Shares.{after_find, after_put}
+use Rattle.filter_board.specs.Runs.{MayPut, with_masks}
+use Rattle.filter_board.specs.Shares.{after_find, after_puts}
 use Rattle.filter_board.proofs.LookFacts.{sound_same}
+use Rattle.filter_board.proofs.MarkFacts.{or_masks}
 use Rattle.filter_board.proofs.WordFacts.{actor_at, actors_set, agrees, grows, word_done, word_drawn, word_else, word_here}
 
 -- the puts that are listed then
@@ -40,7 +43,7 @@ module _ (s : Shape) (R : IsRight (job_of s)) (parts : ℕ) (ws : List ℕ) (hs 
   ns = set ws (index_of s ((job_of s).region p q) ((job_of s).word p i q)) (bit_or (regions_in s ws ((job_of s).region p q) ((job_of s).word p i q)) ((job_of s).mask p i q))
 
   abbrev putter : Share
-  putter = after_put i q h
+  putter = after_puts (i ∷ []) q h
 
   is : IsWord (job_of s) ((job_of s).region p q) ((job_of s).word p i q)
   is = (R.placed p i q item).inside
@@ -63,15 +66,62 @@ module _ (s : Shape) (R : IsRight (job_of s)) (parts : ℕ) (ws : List ℕ) (hs 
       same_drawn : (o : ℕ) → o < length s.pipes → drawn_of s ws o ≤ drawn_of s ns o
       same_drawn o l = omega (arith, word_drawn s ws f.sized r w new is o l)
 
-  -- where the word has the mask, the put leaves all words as they are
-  sound_listed : bit_and (regions_in s ws r w) ((job_of s).mask p i q) ≡ (job_of s).mask p i q → IsSoundBoard s parts ws (set hs id putter)
-  sound_listed has =
-      let same : new ≡ regions_in s ws r w = omega (arith, or_add_and (regions_in s ws r w) ((job_of s).mask p i q), has) in
-      subst (λ (l : List ℕ). IsSoundBoard s parts l (set hs id putter)) (ap (set ws (index_of s r w)) same ∙ set-get_or ws (index_of s r w) 0) sound_put
+-- ---- a run of items: their masks are or'd into one word, one after the other
+abbrev mask_by : Shape → ℕ → ℕ → ℕ → ℕ
+mask_by s p q i = (job_of s).mask p i q
 
-  -- a look that lists the put where the word has the mask
-  pub sound_found : IsSoundBoard s parts ws (set hs id (after_find i q ((job_of s).mask p i q) h (regions_in s ws r w)))
-  sound_found = elim (cases_Bool (bit_and (regions_in s ws r w) ((job_of s).mask p i q) == (job_of s).mask p i q)) [
-    | inl has ↦ subst (λ b. IsSoundBoard s parts ws (set hs id (if b then after_put i q h else h))) (sym has) (sound_listed (eqb-true _ _ has))
-    | inr lacks ↦ subst (λ b. IsSoundBoard s parts ws (set hs id (if b then after_put i q h else h))) (sym lacks) (sound_same s R parts ws hs f id h at)
-  ]
+abbrev spot_of : Shape → ℕ → ℕ → ℕ → ℕ
+spot_of s p q i = index_of s ((job_of s).region p q) ((job_of s).word p i q)
+
+module _ (s : Shape) (R : IsRight (job_of s)) (parts p q c : ℕ) where
+  pub sound_puts : (items : List ℕ) (ws : List ℕ) (hs : List Share) → IsSoundBoard s parts ws hs → (id : ℕ) (h : Share) → get_elem? hs id ≡ some h → 0 < h.parts → c < word_count s
+      → All (MayPut (job_of s) p q h.actor) items → All (λ i. c ≡ spot_of s p q i) items
+      → IsSoundBoard s parts (set ws c (with_masks (mask_by s p q) (get_or ws c 0) items)) (set hs id (after_puts items q h))
+  sound_puts [] ws hs f id h at part small may here =
+      subst (λ (l : List ℕ). IsSoundBoard s parts l (set hs id h)) (sym (set-get_or ws c 0)) (sound_same s R parts ws hs f id h at)
+  sound_puts (i ∷ items) ws hs f id h at part small may here =
+      let m = may 0 0 (omega arith) in
+      let first : IsSoundBoard s parts ns (set hs id g) = subst (λ (k : ℕ). IsSoundBoard s parts (set ws k (bit_or (get_or ws k 0) (mask_by s p q i))) (set hs id g)) (sym (here 0 0 (omega arith)))
+      (sound_put s R parts ws hs f id h at p i q m.holds m.passing part) in
+      let rest = sound_puts items ns (set hs id g) first id g (set_here hs id g (within hs id h at)) part small
+      (λ k d l. let t = may (suc k) d (omega arith) in record { passing = t.passing; holds = t.holds }) (λ k d l. here (suc k) d (omega arith)) in
+      subst (λ (x : List ℕ × List Share). IsSoundBoard s parts x.0 x.1) (λ k. (words k, set-set hs id g (after_puts (i ∷ items) q h) k)) rest
+    where
+      g : Share
+      g = after_puts (i ∷ []) q h
+
+      new : ℕ
+      new = bit_or (get_or ws c 0) (mask_by s p q i)
+
+      ns : List ℕ
+      ns = set ws c new
+
+      words : set ns c (with_masks (mask_by s p q) (get_or ns c 0) items) ≡ set ws c (with_masks (mask_by s p q) new items)
+      words = set-set ws c new (with_masks (mask_by s p q) (get_or ns c 0) items) ∙ ap (λ (n : ℕ). set ws c (with_masks (mask_by s p q) n items)) (get_or-set_same ws c new 0 (omega (arith, small, f.sized)))
+
+  module _ (items : List ℕ) (mask : ℕ) (is : mask ≡ with_masks (mask_by s p q) 0 items) (ws : List ℕ) (hs : List Share) (f : IsSoundBoard s parts ws hs)
+      (id : ℕ) (h : Share) (at : get_elem? hs id ≡ some h) (part : 0 < h.parts) (small : c < word_count s)
+      (may : All (MayPut (job_of s) p q h.actor) items) (here : All (λ i. c ≡ spot_of s p q i) items) where
+    abbrev lister : Share
+    lister = after_puts items q h
+
+    abbrev was : ℕ
+    was = get_or ws c 0
+
+    -- the masks of all, or'd into the word at once
+    pub sound_run : IsSoundBoard s parts (set ws c (bit_or was mask)) (set hs id lister)
+    sound_run = subst (λ (n : ℕ). IsSoundBoard s parts (set ws c n) (set hs id lister)) (sym (ap (bit_or was) is ∙ sym (or_masks (mask_by s p q) was items)))
+        (sound_puts items ws hs f id h at part small may here)
+
+    -- where the word has the masks, the puts leave all words as they are
+    sound_listed : bit_and was mask ≡ mask → IsSoundBoard s parts ws (set hs id lister)
+    sound_listed has =
+        let same : bit_or was mask ≡ was = omega (arith, or_add_and was mask, has) in
+        subst (λ (l : List ℕ). IsSoundBoard s parts l (set hs id lister)) (ap (set ws c) same ∙ set-get_or ws c 0) sound_run
+
+    -- a look that lists the puts where the word has the masks
+    pub sound_found : IsSoundBoard s parts ws (set hs id (after_find items q mask h was))
+    sound_found = elim (cases_Bool (bit_and was mask == mask)) [
+      | inl has ↦ subst (λ b. IsSoundBoard s parts ws (set hs id (if b then lister else h))) (sym has) (sound_listed (eqb-true _ _ has))
+      | inr lacks ↦ subst (λ b. IsSoundBoard s parts ws (set hs id (if b then lister else h))) (sym lacks) (sound_same s R parts ws hs f id h at)
+    ]

@@ -3,8 +3,9 @@
 use Rattle.std.specs.Prelude.{◌≡◌, ℕ, ◌+◌, ◌-◌, ◌*◌, ◌^◌, ◌<◌, ◌≤◌, ◌==◌, bit_and, nat_lt}
 use Rattle.std.specs.Prelude.{List, [], ◌∷◌, ◌++◌, Bool, false, true, ◌||◌, if◌then◌else◌, replicate, slice_set}
 use Rattle.transfer_core.specs.Actors.{Actor, HasFinished, actor, idle, is_marked, morsels_of, nothing}
-use Rattle.transfer_core.specs.Actors.{with_finished, with_morsel, with_put, with_seen}
+use Rattle.transfer_core.specs.Actors.{with_finished, with_morsel, with_seen}
 use Rattle.transfer_core.specs.Counts.{times}
+use Rattle.filter_board.specs.Runs.{with_all_put}
 use Rattle.filter_board.specs.declared.share.Share.{Share}
 
 abbrev pub share : Actor → List Bool → ℕ → Share
@@ -52,12 +53,12 @@ after_draw p morsels h r =
     then share (with_morsel p r h.actor) h.told h.parts
     else share h.actor (slice_set h.told p true) h.parts
 
-abbrev pub after_put : ℕ → ℕ → Share → Share
-after_put item port h = share (with_put item port h.actor) h.told h.parts
+abbrev pub after_puts : List ℕ → ℕ → Share → Share
+after_puts items port h = share (with_all_put items port h.actor) h.told h.parts
 
--- a look at the word of an item in the region of a port that found r: the put is listed where r has all bits of the mask
-abbrev pub after_find : ℕ → ℕ → ℕ → Share → ℕ → Share
-after_find item port mask h r = if bit_and r mask == mask then after_put item port h else h
+-- a look at the word of a run of items in the region of a port that found r: the puts are listed where r has all bits of the mask
+abbrev pub after_find : List ℕ → ℕ → ℕ → Share → ℕ → Share
+after_find items port mask h r = if bit_and r mask == mask then after_puts items port h else h
 
 abbrev pub after_finish : Share → Share
 after_finish h = share (with_finished h.actor.held h.actor) h.told h.parts

@@ -1,6 +1,6 @@
 -- A board and a hand as contracts see them.
 -- Words of this crate's own contracts.
-use Rattle.std.specs.Prelude.{◌≡◌, ℕ, ◌<◌, ◌==◌, List, [], Bool, bit_and, slice_set, true}
+use Rattle.std.specs.Prelude.{◌≡◌, ℕ, ◌<◌, ◌==◌, All, List, [], Bool, bit_and, slice_set, true}
 pub use Rattle.atomic_table.specs.Seated.{TableId}
 use Rattle.rpt_base.specs.Limits.{AreWorkers}
 use Rattle.atomic_table.specs.Table.{Me}
@@ -13,6 +13,7 @@ use Rattle.transfer_core.specs.Plans.{IsValid, Shape, shape_of}
 use Rattle.transfer_core.specs.Sealed.{sealed}
 use Rattle.transfer_core.specs.Steps.{ListsAllPuts}
 use Rattle.filter_board.specs.Layout.{index_of}
+use Rattle.filter_board.specs.Runs.{with_masks}
 use Rattle.filter_board.specs.Shares.{IsTold, fresh, parts_of}
 use Rattle.filter_board.specs.declared.share.Share.{Share}
 
@@ -62,6 +63,11 @@ module _ {P : Type 0} (seen : P → Places) (b : BoardView P) where
   -- where the word of item i of pipe p in the region of port q stands among the words of the board
   abbrev pub index_of_item : ℕ → ℕ → ℕ → ℕ
   index_of_item p i q = index_of shape_in (job_in.region p q) (job_in.word p i q)
+
+  -- a run: the places of these items, by port q of pipe p, are in the word that stands at `at`, and `mask` has all their masks
+  pub record IsRun (p q : ℕ) (items : List ℕ) (at mask : ℕ) : Type 0 where
+    pub places : All (λ i. at ≡ index_of_item p i q) items
+    pub masks : mask ≡ with_masks (λ i. job_in.mask p i q) 0 items
 
   -- a board is made for a valid plan, and for 1 to 32 workers
   pub record IsMade : Type 0 where

@@ -1,12 +1,12 @@
 // Morsels: drawn, put and finished.
-ghost use Rattle.std.specs.Prelude.{◌≡◌, ℕ, ◌/◌, ◌<◌, ◌^◌, IfNone, IfSome, false, length, true};
-ghost use Rattle.transfer_core.specs.Actors.{Holds, HoldsNone, is_marked};
-ghost use Rattle.transfer_core.specs.Actors.{with_finished, with_morsel, with_put};
+ghost use Rattle.std.specs.Prelude.{◌≡◌, ℕ, ◌<◌, ◌^◌, All, IfNone, IfSome, false, length, true};
+ghost use Rattle.transfer_core.specs.Actors.{HoldsNone, is_marked, with_finished, with_morsel};
 ghost use Rattle.transfer_core.specs.Job.{IsPassing};
 ghost use Rattle.transfer_core.specs.Plans.{HasPlace, place_at, shape_of, words_of};
 ghost use Rattle.transfer_core.specs.Sound.{HasSeenReads};
-ghost use Rattle.filter_board.specs.Shares.{HasFinishedBelow, IsTold, after_draw, after_put};
-ghost use Rattle.filter_board.specs.Views.{MayFinish, index_of_item, job_in, with_actor, with_told};
+ghost use Rattle.filter_board.specs.Runs.{MayPut, with_all_put};
+ghost use Rattle.filter_board.specs.Shares.{HasFinishedBelow, IsTold, after_draw, after_puts};
+ghost use Rattle.filter_board.specs.Views.{IsRun, MayFinish, index_of_item, job_in, with_actor, with_told};
 
 use crate::board::Board;
 use crate::hand::Hand;
@@ -68,41 +68,66 @@ impl<P: Placement + Drop> Board<P> {
             .fetch_add::<Draws<C>>(seat, pipe as usize, 1)
     }
 
-    /// Puts an item that passes, of the morsel that the hand holds, into the region of a port. It looks at the word, and where it
-    /// lacks a bit of the mask, makes one `fetch_or` of the mask.
-    pub fn put(&self, hand: &mut Hand, pipe: u32, item: u32, port: u32)
+    /// Puts items of the morsel that the hand holds, each of which passes, into the region of a port, in the order of the list.
+    /// Pipes, items and a pipe's ports are numbered from 0. Successive items whose places are in one word are put at once: one
+    /// look at the word, and where it lacks a bit of their masks, one `fetch_or` of all of them. So workers whose items have the
+    /// same words wait for each other as seldom as can be.
+    pub fn put_all(&self, hand: &mut Hand, pipe: u32, port: u32, items: &[u32])
         requires own { hand.old.of ≡ self.now.of }
-        requires holds { Holds hand.old.actor pipe (item / self.now.plan.morsel) }
-        requires item { IsPassing (job_in P.seen self.now) pipe item port }
-        ensures { hand.new ≡ with_actor (with_put item port) hand.old }
+        requires items { All (MayPut (job_in P.seen self.now) pipe port hand.old.actor) items.now }
+        ensures { hand.new ≡ with_actor (with_all_put items.now port) hand.old }
     {
-        let (at, mask) = self.spot(pipe, item, port);
+        if items.is_empty() {
+            return;
+        }
+        let mut start = 0;
+        let (mut at, mut mask) = self.spot(pipe, items[0], port);
+        for next in 1..items.len() {
+            let (spot, more) = self.spot(pipe, items[next], port);
+            if spot != at {
+                self.put_run(hand, pipe, port, &items[start..next], at, mask);
+                start = next;
+                at = spot;
+                mask = 0;
+            }
+            mask |= more;
+        }
+        self.put_run(hand, pipe, port, &items[start..], at, mask);
+    }
+
+    // Puts a run of items, whose places are in one word.
+    fn put_run(&self, hand: &mut Hand, pipe: u32, port: u32, items: &[u32], at: usize, mask: u64)
+        requires own { hand.old.of ≡ self.now.of }
+        requires items { All (MayPut (job_in P.seen self.now) pipe port hand.old.actor) items.now }
+        requires run { IsRun P.seen self.now pipe port items.now at mask }
+        requires inside { at < self.now.of.words }
+        ensures { hand.new ≡ with_actor (with_all_put items.now port) hand.old }
+    {
         // Workers whose items have the same few words wait for each other at each `fetch_or`, but not at a load.
-        if !self.finds_as::<Brand>(&mut hand.seat, pipe, item, port, at, mask) {
-            self.put_as::<Brand>(&mut hand.seat, pipe, item, port, at, mask);
+        if !self.finds_as::<Brand>(&mut hand.seat, pipe, port, items, at, mask) {
+            self.put_as::<Brand>(&mut hand.seat, pipe, port, items, at, mask);
         }
     }
 
-    // Whether the word has the bits of the item already, so that the item is put without a change.
+    // Whether the word has the bits of the items already, so that they are put without a change.
     fn finds_as<C: About>(
         &self,
         seat: &mut Seat<(), Share>,
         pipe: u32,
-        item: u32,
         port: u32,
+        items: &[u32],
         at: usize,
         mask: u64,
     ) -> bool
-        requires about { (C.item ≡ item) × (C.port ≡ port) × (C.mask ≡ mask) }
+        requires about { (C.items ≡ items.now) × (C.port ≡ port) × (C.mask ≡ mask) }
         requires own { seat.old.table_id ≡ self.now.of }
-        requires item { IsPassing (job_in P.seen self.now) pipe item port }
-        requires at { at ≡ index_of_item P.seen self.now pipe item port }
-        requires mask { mask ≡ (job_in P.seen self.now).mask pipe item port }
+        requires items { All (MayPut (job_in P.seen self.now) pipe port seat.old.me.0.actor) items.now }
+        requires run { IsRun P.seen self.now pipe port items.now at mask }
+        requires inside { at < self.now.of.words }
         requires part { 0 < seat.old.me.0.parts }
-        requires holds { Holds seat.old.me.0.actor pipe (item / self.now.plan.morsel) }
         ensures own { seat.new.table_id ≡ seat.old.table_id }
         ensures put { result ≡ true
-            → seat.new.me ≡ (after_put item port seat.old.me.0, seat.old.me.1) }
+            → seat.new.me ≡ (after_puts items.now port seat.old.me.0, seat.old.me.1) }
         ensures not_put { result ≡ false → seat.new.me ≡ seat.old.me }
     {
         let word = self.table.shared.load::<Finds<C>>(seat, at);
@@ -113,20 +138,19 @@ impl<P: Placement + Drop> Board<P> {
         &self,
         seat: &mut Seat<(), Share>,
         pipe: u32,
-        item: u32,
         port: u32,
+        items: &[u32],
         at: usize,
         mask: u64,
     )
-        requires about { (C.item ≡ item) × (C.port ≡ port) }
+        requires about { (C.items ≡ items.now) × (C.port ≡ port) }
         requires own { seat.old.table_id ≡ self.now.of }
-        requires item { IsPassing (job_in P.seen self.now) pipe item port }
-        requires at { at ≡ index_of_item P.seen self.now pipe item port }
-        requires mask { mask ≡ (job_in P.seen self.now).mask pipe item port }
+        requires items { All (MayPut (job_in P.seen self.now) pipe port seat.old.me.0.actor) items.now }
+        requires run { IsRun P.seen self.now pipe port items.now at mask }
+        requires inside { at < self.now.of.words }
         requires part { 0 < seat.old.me.0.parts }
-        requires holds { Holds seat.old.me.0.actor pipe (item / self.now.plan.morsel) }
         ensures own { seat.new.table_id ≡ seat.old.table_id }
-        ensures me { seat.new.me ≡ (after_put item port seat.old.me.0, seat.old.me.1) }
+        ensures me { seat.new.me ≡ (after_puts items.now port seat.old.me.0, seat.old.me.1) }
     {
         self.table.shared.fetch_or::<Puts<C>>(seat, at, mask);
     }
@@ -135,6 +159,7 @@ impl<P: Placement + Drop> Board<P> {
     fn spot(&self, pipe: u32, item: u32, port: u32) -> (usize, u64)
         requires { IsPassing (job_in P.seen self.now) pipe item port }
         ensures at { result.0 ≡ index_of_item P.seen self.now pipe item port }
+        ensures inside { result.0 < self.now.of.words }
         ensures mask { result.1 ≡ (job_in P.seen self.now).mask pipe item port }
     {
         let plan = &self.setup.plan;

@@ -1,10 +1,10 @@
 // The rule of a board, and what each kind of step tells.
-ghost use Rattle.std.specs.Prelude.{◌≡◌, ◌≤◌, ◌<◌, ℕ};
+ghost use Rattle.std.specs.Prelude.{◌≡◌, ◌≤◌, ◌<◌, ℕ, List, []};
 ghost use Rattle.transfer_core.specs.Actors.{HoldsNone};
 ghost use Rattle.transfer_core.specs.Plans.{shape_of};
 ghost use Rattle.filter_board.specs.Rule.{IsSoundBoard};
 ghost use Rattle.filter_board.specs.Shares.{HasFinishedBelow, HasFinishedOnce, IsTold, fresh, parts_of, spent};
-ghost use Rattle.filter_board.specs.Shares.{after_draw, after_find, after_finish, after_look, after_put, joined, less, piece};
+ghost use Rattle.filter_board.specs.Shares.{after_draw, after_find, after_finish, after_look, after_puts, joined, less, piece};
 
 use crate::setup::Setup;
 use crate::share::Share;
@@ -25,13 +25,13 @@ impl<P: Placement> TableRule<(), Share, Setup<P>> for BoardRule<P> {
 
 /// What a step is about, for its proof alone. A call at `Brand` picks it.
 pub trait About {
-    ghost use Rattle.std.specs.Prelude.{ℕ};
+    ghost use Rattle.std.specs.Prelude.{ℕ, List};
 
     ghost pipe: { ℕ };
 
     ghost morsels: { ℕ };
 
-    ghost item: { ℕ };
+    ghost items: { List ℕ };
 
     ghost port: { ℕ };
 
@@ -47,7 +47,7 @@ impl About for Brand {
 
     ghost morsels = { 0 };
 
-    ghost item = { 0 };
+    ghost items = { [] };
 
     ghost port = { 0 };
 
@@ -68,22 +68,22 @@ impl<C: About> Play<(), Share> for Draws<C> {
         × HasFinishedBelow r C.pipe me.0.actor };
 }
 
-/// A put of an item into the region of a port.
+/// A put of a run of items into the region of a port: as many puts of one item, made at once.
 pub struct Puts<C> {
     about: PhantomData<C>,
 }
 
 impl<C: About> Play<(), Share> for Puts<C> {
-    ghost then = { λ _ me _ after. after ≡ (after_put C.item C.port me.0, me.1) };
+    ghost then = { λ _ me _ after. after ≡ (after_puts C.items C.port me.0, me.1) };
 }
 
-/// A look at the word of an item in the region of a port. Where it has all bits of the item's mask, it is as good as a put.
+/// A look at the word of a run of items in the region of a port. Where it has all bits of their masks, it is as good as a put.
 pub struct Finds<C> {
     about: PhantomData<C>,
 }
 
 impl<C: About> Play<(), Share> for Finds<C> {
-    ghost then = { λ _ me r after. after ≡ (after_find C.item C.port C.mask me.0 r, me.1) };
+    ghost then = { λ _ me r after. after ≡ (after_find C.items C.port C.mask me.0 r, me.1) };
 }
 
 /// The end of the morsel that is held.

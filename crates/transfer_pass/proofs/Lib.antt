@@ -1,3 +1,4 @@
+mod ChunkFacts
 mod Drawn
 pub mod FirstHands
 mod HandFacts

@@ -1,12 +1,11 @@
 -- Puts that are listed.
-use Rattle.std.proofs.Common.{◌≡◌, ℕ, List, [], ◌∷◌, ◌++◌, Bool, true, false, ◌||◌, ◌&&◌, if◌then◌else◌, eqb, eq-eqb, refl, sym, ap, ◌∙◌}
-use Rattle.transfer_core.specs.Actors.{is_listed}
+use Rattle.std.proofs.Common.{◌≡◌, ℕ, zero, suc, All, arith, List, [], ◌∷◌, ◌++◌, Bool, true, false, ◌||◌, ◌&&◌, if◌then◌else◌, eqb, eq-eqb, refl, sym, ap, ◌∙◌}
+use Rattle.std.specs.Prelude.{fold}
+use Rattle.transfer_core.specs.Actors.{Actor, is_listed}
+use Rattle.transfer_core.specs.Job.{Job}
+use Rattle.filter_board.specs.Runs.{MayPut, with_listed}
 use Rattle.filter_board.specs.Views.{HandView}
 use Rattle.transfer_pass.specs.Work.{with_puts}
-
--- what is listed after a put
-abbrev pub after_put_of : ℕ → ℕ → List (ℕ × ℕ) → List (ℕ × ℕ)
-after_put_of item port puts = if is_listed item port puts then puts else puts ++ (item, port) ∷ []
 
 either_yes : (b : Bool) {c d : Bool} → (c ≡ true → d ≡ true) → (b || c) ≡ true → (b || d) ≡ true
 either_yes true f e = refl
@@ -32,11 +31,25 @@ now : (b : Bool) (i q : ℕ) (xs : List (ℕ × ℕ)) → is_listed i q xs ≡ b
 now true i q xs e = e
 now false i q xs e = last i q xs
 
-pub listed_still : (i q item port : ℕ) (puts : List (ℕ × ℕ)) → is_listed i q puts ≡ true → is_listed i q (after_put_of item port puts) ≡ true
+listed_still : (i q item port : ℕ) (puts : List (ℕ × ℕ)) → is_listed i q puts ≡ true → is_listed i q (with_listed port puts item) ≡ true
 listed_still i q item port puts e = still (is_listed item port puts) i q puts ((item, port) ∷ []) e
 
-pub listed_now : (item port : ℕ) (puts : List (ℕ × ℕ)) → is_listed item port (after_put_of item port puts) ≡ true
+listed_now : (item port : ℕ) (puts : List (ℕ × ℕ)) → is_listed item port (with_listed port puts item) ≡ true
 listed_now item port puts = now (is_listed item port puts) item port puts refl
+
+-- ---- the puts of many items by one port
+pub all_still : (i q port : ℕ) (items : List ℕ) (puts : List (ℕ × ℕ)) → is_listed i q puts ≡ true → is_listed i q (fold (with_listed port) puts items) ≡ true
+all_still i q port [] puts e = e
+all_still i q port (x ∷ items) puts e = all_still i q port items (with_listed port puts x) (listed_still i q x port puts e)
+
+pub all_now : (port : ℕ) (items : List ℕ) (puts : List (ℕ × ℕ)) → All (λ i. is_listed i port (fold (with_listed port) puts items) ≡ true) items
+all_now port [] puts k d l = absurd (omega arith)
+all_now port (x ∷ items) puts zero d l = all_still x port port items (with_listed port puts x) (listed_now x port puts)
+all_now port (x ∷ items) puts (suc k) d l = all_now port items (with_listed port puts x) k d (omega arith)
+
+-- an actor that holds the same may put the same
+pub may_still : (j : Job) (p q : ℕ) (a b : Actor) (items : List ℕ) → a.held ≡ b.held → All (MayPut j p q b) items → All (MayPut j p q a) items
+may_still j p q a b items held may = λ k d l. let t = may k d l in record { passing = t.passing; holds = held ∙ t.holds }
 
 -- two calls that change the puts alone
 pub same_but_puts : (a b c : HandView) (puts : List (ℕ × ℕ)) → a ≡ with_puts puts b → b ≡ with_puts b.actor.puts c → a ≡ with_puts a.actor.puts c

@@ -1,41 +1,73 @@
 // The items of a morsel that a hand holds.
-ghost use Rattle.std.specs.Prelude.{◌≡◌, ℕ, ◌/◌, ◌<◌, All, length, true};
-ghost use Rattle.transfer_core.specs.Actors.{HasSeen, Holds, is_listed};
-ghost use Rattle.transfer_core.specs.Job.{IsPassing};
+ghost use Rattle.std.specs.Prelude.{◌≡◌, ℕ, ◌<◌, ◌≤◌, All, length, take, true};
+ghost use Rattle.transfer_core.specs.Actors.{HasSeen, is_listed};
 ghost use Rattle.transfer_core.specs.Plans.{HasPlace, place_at, shape_of, words_of};
+ghost use Rattle.filter_board.specs.Runs.{MayPut};
 ghost use Rattle.filter_board.specs.Views.{job_in, shape_in};
-ghost use Rattle.transfer_pass.specs.Work.{AreReads, HasSeenWriter, IsItem, KeepsListed};
-ghost use Rattle.transfer_pass.specs.Work.{answers_sealed, passes_sealed, with_puts};
+ghost use Rattle.transfer_pass.specs.Work.{AreReads, EachIn, HasSeenWriter, IsChunk, IsHeld, KeepsListed, ListsPuts};
+ghost use Rattle.transfer_pass.specs.Work.{answers_sealed, passes_sealed, passing_items, with_puts};
 
 use filter_board::{Board, Hand};
 use key_codes::{Place, Placement};
 use transfer_core::{Plan, Port};
 
-/// Puts an item of the morsel that the hand holds into each region that its pipe writes, if it passes. The pipe reads by these
-/// ports, and writes by so many.
-pub(crate) fn work_item<P: Placement + Drop>(
+/// How many items a chunk has at most: as many as one word has bits. So where a region has a bit for each item, in order, a chunk
+/// that begins at a multiple of it is put in one step.
+pub(crate) const CHUNK: usize = 64;
+
+/// Puts the items of a chunk that pass, out of the morsel that the hand holds, into each region that their pipe writes. The
+/// chunk's items are numbered from `from` on, to the one before `to`. The pipe reads by these ports, and writes by so many.
+pub(crate) fn work_chunk<P: Placement + Drop>(
     board: &Board<P>,
     hand: &mut Hand,
     pipe: u32,
     reads: &[Port],
     writes: u32,
-    item: u32,
+    from: u32,
+    to: u32,
 )
     requires own { hand.old.of ≡ board.now.of }
-    requires item { IsItem (job_in P.seen board.now) pipe item }
+    requires chunk { IsChunk from to }
     requires reads { AreReads (shape_in P.seen board.now) pipe reads.now }
     requires writes { writes ≡ (job_in P.seen board.now).ports pipe }
-    requires places { All (HasPlace (shape_in P.seen board.now) item) reads.now }
+    requires items { EachIn from to (IsHeld (job_in P.seen board.now) pipe hand.old.actor) }
+    requires places { EachIn from to (λ i. All (HasPlace (shape_in P.seen board.now) i) reads.now) }
     requires seen { All (HasSeenWriter (job_in P.seen board.now) hand.old.actor) reads.now }
-    requires holds { Holds hand.old.actor pipe (item / board.now.plan.morsel) }
     ensures same { hand.new ≡ with_puts hand.new.actor.puts hand.old }
     ensures keeps { KeepsListed hand.old.actor.puts hand.new.actor.puts }
-    ensures listed { (q : ℕ) → IsPassing (job_in P.seen board.now) pipe item q
-        → is_listed item q hand.new.actor.puts ≡ true }
+    ensures listed { EachIn from to (ListsPuts (job_in P.seen board.now) pipe hand.new.actor.puts) }
 {
-    if passes(board, hand, reads, item) {
-        put_everywhere(board, hand, pipe, writes, item);
+    let mut buffer = [0u32; CHUNK];
+    let count = gather(board, hand, reads, from, to, &mut buffer);
+    put_everywhere(board, hand, pipe, writes, &buffer[..count]);
+}
+
+// Writes the items of a chunk that pass, in order, to the front of a buffer, and tells how many they are.
+fn gather<P: Placement + Drop>(
+    board: &Board<P>,
+    hand: &mut Hand,
+    reads: &[Port],
+    from: u32,
+    to: u32,
+    buffer: &mut [u32; CHUNK],
+) -> usize
+    requires own { hand.old.of ≡ board.now.of }
+    requires chunk { IsChunk from to }
+    requires places { EachIn from to (λ i. All (HasPlace (shape_in P.seen board.now) i) reads.now) }
+    requires seen { All (HasSeenWriter (job_in P.seen board.now) hand.old.actor) reads.now }
+    ensures same { hand.new ≡ hand.old }
+    ensures count { result ≤ 64 }
+    ensures passing { take result buffer.new
+        ≡ passing_items (shape_in P.seen board.now) reads.now from to }
+{
+    let mut count = 0;
+    for item in from..to {
+        if passes(board, hand, reads, item) {
+            buffer[count] = item;
+            count += 1;
+        }
     }
+    count
 }
 
 // An item passes where the region of each port by which its pipe reads answers yes for it.
@@ -76,24 +108,23 @@ fn place_in<P: Placement>(plan: &Plan<P>, port: Port, item: u32) -> Place
     plan.places.as_slice()[port.places as usize].place(item, words)
 }
 
-// Puts an item that passes by each port by which its pipe writes.
+// Puts items that pass by each port by which their pipe writes.
 fn put_everywhere<P: Placement + Drop>(
     board: &Board<P>,
     hand: &mut Hand,
     pipe: u32,
     writes: u32,
-    item: u32,
+    items: &[u32],
 )
     requires own { hand.old.of ≡ board.now.of }
-    requires item { IsItem (job_in P.seen board.now) pipe item }
-    requires writes { writes ≡ (job_in P.seen board.now).ports pipe }
-    requires passing { (job_in P.seen board.now).passes pipe item ≡ true }
-    requires holds { Holds hand.old.actor pipe (item / board.now.plan.morsel) }
+    requires items { (q : ℕ) → q < writes
+        → All (MayPut (job_in P.seen board.now) pipe q hand.old.actor) items.now }
     ensures same { hand.new ≡ with_puts hand.new.actor.puts hand.old }
     ensures keeps { KeepsListed hand.old.actor.puts hand.new.actor.puts }
-    ensures listed { (q : ℕ) → q < writes → is_listed item q hand.new.actor.puts ≡ true }
+    ensures listed { (q : ℕ) → q < writes
+        → All (λ i. is_listed i q hand.new.actor.puts ≡ true) items.now }
 {
     for port in 0..writes {
-        board.put(hand, pipe, item, port);
+        board.put_all(hand, pipe, port, items);
     }
 }

@@ -6,7 +6,7 @@ ghost use Rattle.filter_board.specs.Shares.{IsTold};
 ghost use Rattle.filter_board.specs.Views.{job_in, with_actor};
 ghost use Rattle.transfer_pass.specs.Rounds.{IsFree};
 
-use crate::items::work_item;
+use crate::items::{CHUNK, work_chunk};
 use filter_board::{Board, Hand};
 use key_codes::Placement;
 
@@ -26,7 +26,8 @@ pub(crate) fn work_pipe<P: Placement + Drop>(board: &Board<P>, hand: &mut Hand, 
     }
 }
 
-// Works on the items of a morsel that the hand holds, and finishes it. The pipe is looked up once, and not for each item.
+// Works on the items of a morsel that the hand holds, chunk by chunk, and finishes it. The pipe is looked up once, and not for each
+// item.
 fn work_morsel<P: Placement + Drop>(board: &Board<P>, hand: &mut Hand, pipe: u32, morsel: u32)
     requires own { hand.old.of ≡ board.now.of }
     requires pipe { pipe < length board.now.plan.pipes }
@@ -42,8 +43,11 @@ fn work_morsel<P: Placement + Drop>(board: &Board<P>, hand: &mut Hand, pipe: u32
     let writes = from.writes.as_slice().len() as u32;
     let start = morsel * plan.morsel;
     let end = start + plan.morsel.min(items - start);
-    for item in start..end {
-        work_item(board, hand, pipe, reads, writes, item);
+    let mut next = start;
+    'chunks: while next < end {
+        let stop = next + (end - next).min(CHUNK as u32);
+        work_chunk(board, hand, pipe, reads, writes, next, stop);
+        next = stop;
     }
     board.finish(hand, pipe);
 }

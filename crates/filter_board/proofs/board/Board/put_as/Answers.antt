@@ -1,13 +1,14 @@
-use Rattle.std.proofs.Common.{rules, arith}
+use Rattle.std.proofs.Common.{rules, arith, ap}
+use Rattle.atomic_table.specs.Seated.{TableId}
 use Rattle.filter_board.proofs.BoardFacts.{facts}
 use Rattle.filter_board.proofs.Moves.{puts_as}
-use Rattle.filter_board.proofs.Offsets.{offset_in}
 use Rattle.filter_board.proofs.board.Board.put_as.Goals as goal
 
 pub fetch_or-requires : goal.fetch_or-requires
 fetch_or-requires g c = let f = facts g.P.Placement.seen g.met.P.Placement.lawful _ _ _ _ _ _ c.self.invariant c.self.view_is in
-    let is = (f.right.placed c.args.pipe c.args.item c.args.port c.requires.item).inside in (
+    let words = ap (λ (t : TableId). t.words) f.of_is in (
       search rules,
-      omega (arith, c.requires.at, f.words, offset_in c.args.self.now.plan.words _ _ is.0 is.1),
-      puts_as _ _ _ _ f.right f.same f.parts _ _ _ c.args.pipe c.args.item c.args.port _ _ _ _ c.requires.about.0 c.requires.about.1 c.requires.at c.requires.mask c.requires.holds c.requires.item c.requires.part,
+      omega (arith, c.requires.inside, words),
+      puts_as _ _ _ _ f.right f.same f.parts _ _ _ c.args.pipe c.args.port _ _ _ c.args.items.now _ c.requires.about.0 c.requires.about.1 c.requires.run.masks c.requires.part
+          (omega (arith, c.requires.inside, words, f.words)) c.requires.items c.requires.run.places,
     )
