@@ -1,7 +1,7 @@
 mod AcceptedFacts
 mod SequenceFacts
 mod PlanFacts
-pub mod OnePlan
+mod OnePlan
 mod EachFacts
 mod JoinedFacts
 pub mod BoundedFacts

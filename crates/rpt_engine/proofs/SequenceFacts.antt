@@ -1,18 +1,14 @@
--- The sequence of a list with parents is an order, and its prefixes have one list of join lists.
-use Rattle.std.proofs.Common.{◌≡◌, ℕ, ◌+◌, ◌<◌, ◌≤◌, Bool, true, false, ◌||◌, List, [], ◌∷◌, length, get_or, map, refl, sym, ap, ◌∙◌, eqb, arith}
-use Rattle.std.specs.Prelude.{Option, None, Some}
+-- The sequence of a list with parents is an order.
+use Rattle.std.proofs.Common.{◌≡◌, ℕ, ◌+◌, ◌<◌, ◌≤◌, Bool, true, false, ◌||◌, List, [], ◌∷◌, length, map, refl, sym, ap, ◌∙◌, eqb, arith}
 use Rattle.std.specs.List.{AllByRecursion, IsDistinct, list_any}
 use Rattle.std.proofs.lemmas.Bool.{lt-ltb, or_parts}
-use Rattle.std.proofs.lemmas.List.{ext_get_or, length-map}
+use Rattle.std.proofs.lemmas.List.{length-map}
 use Rattle.std.proofs.lemmas.Map.Steps.{length-le_from_distinct_below, le-length_from_below}
 use Rattle.join_graph.specs.declared.tree.Link.{Link}
-use Rattle.join_graph.specs.declared.tree.Tree.{Tree}
 use Rattle.join_graph.specs.JoinList.{has, everyone, listed_by, Extends, HasParents}
-use Rattle.join_graph.specs.SafeSet.{IsSafe}
 use Rattle.join_graph.proofs.ListFacts.{everyone-below, extends-below, only-root, same_truth}
 use Rattle.largest_root.proofs.ListedFacts.{has-listed_by}
-use Rattle.safe_subjoin.specs.SafeOrder.{AreListsOfPrefixes, IsListOf, IsOrder, IsSafeList, first_of, sequence}
-use Rattle.safe_subjoin.proofs.OneList.{one-safe_list}
+use Rattle.safe_subjoin.specs.SafeOrder.{IsOrder, sequence}
 
 length-listed : (listed : List ℕ) (links : List Link) → length (listed_by listed links) ≡ length listed + length links
 length-listed listed [] = omega arith
@@ -61,18 +57,3 @@ sequence-order n root links h = record { count = count; all = λ r. sym (has-seq
         let few : length listed ≤ n = length-le_from_distinct_below listed n (listed-distinct n (root ∷ []) links (root-distinct root) h.extends) below in
         let many : n ≤ length listed = le-length_from_below listed n h.all in
         omega (arith, length-listed (root ∷ []) links, length-map links (λ (l : Link). l.child))
-
--- a safe list shows that its set is safe
-list-safe : (vs : List (List ℕ)) (set : ℕ → Bool) (t : Tree) → IsSafeList vs set t → IsSafe vs set
-list-safe vs set t h = (t.root, t.links, h.joins, h.begins)
-
-list-same : (vs : List (List ℕ)) (set : ℕ → Bool) (x y : Option Tree) → IsListOf vs set x → IsListOf vs set y → x ≡ y
-list-same vs set None None h k = refl
-list-same vs set None (Some t) h k = absurd (h (list-safe vs set t k))
-list-same vs set (Some s) None h k = absurd (k (list-safe vs set s h))
-list-same vs set (Some s) (Some t) h k = ap (λ (z : Tree). Some z) (one-safe_list vs set s t h k)
-
--- there is one list of join lists for the prefixes of an order
-pub lists-same : (vs : List (List ℕ)) (order : List ℕ) (a b : List (Option Tree)) → AreListsOfPrefixes vs order a → AreListsOfPrefixes vs order b → a ≡ b
-lists-same vs order a b h k = ext_get_or None a b (h.count ∙ sym k.count)
-    (λ i lt. list-same vs (first_of order (i + 1)) (get_or a i None) (get_or b i None) (h.each i None lt) (k.each i None (omega (arith, h.count, k.count))))

@@ -10,6 +10,7 @@
 mod answering;
 mod edges;
 mod errors;
+mod laws;
 mod options;
 mod places;
 mod planning;
@@ -19,6 +20,7 @@ mod selecting;
 
 pub use answering::{Outcome, answer};
 pub use errors::{AnswerError, PrepareError};
+pub use laws::has_plan;
 pub use options::Options;
 pub use places::AnyPlace;
 pub use planning::{Plan, plan_for};
