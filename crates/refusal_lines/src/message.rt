@@ -214,7 +214,7 @@ fn put_parts<M: Sink>(parts: &[Part], sink: &mut M) -> Result<(), Failed>
     Ok(())
 }
 
-// A number's text is written to a buffer on the stack.
+// A number's text is written to a buffer on the stack. An empty part is not put, since each put may be a call on the system.
 fn put_part<M: Sink>(part: &Part, sink: &mut M) -> Result<(), Failed>
     ensures { Puts (M.taken sink.old) (M.taken sink.new) (M.faults sink.old) (M.faults sink.new) (part_text part.now) result }
 {
@@ -223,5 +223,8 @@ fn put_part<M: Sink>(part: &Part, sink: &mut M) -> Result<(), Failed>
         Part::Text(text) => text,
         Part::Number(number) => buffer.format(*number).as_bytes(),
     };
+    if text.is_empty() {
+        return Ok(());
+    }
     sink.put(text)
 }
