@@ -126,18 +126,18 @@ module _ (given : Option (List ℕ)) where
   script-refusal bytes Memory h = tt
 
   -- a course that ends so leads to no usage and no fault but of a file that it asks for, whose count rose
-  Leads-tells : (told : List ℕ → Option (List ℕ)) (before now : List ℕ → ℕ) (course : Course) (answer : Answer) → EndsOverContents given course
-      → Leads told before now course answer → IsOverContents given answer ⊎ ((name : List ℕ) × (answer ≡ Err (ReadFault name)) × Rose (before name) (now name))
-  Leads-tells told before now (Ends end) answer p e = inl (subst (IsOverContents given) (sym e) p)
-  Leads-tells told before now (Asks name next) answer p (inl fault) = inr (name, fault.0, fault.1)
-  Leads-tells told before now (Asks name next) answer p (inr read) = Leads-tells told before now (next read.0) answer (p read.0) read.2
-  Leads-tells told before now (Finds matter next) answer p l = by l.0 l.1.0 (λ x. Leads-tells told before now (next x) answer (p.1 x)) l.2
+  Leads-tells : (missing : List ℕ → Bool) (told : List ℕ → Option (List ℕ)) (before now : List ℕ → ℕ) (course : Course) (answer : Answer) → EndsOverContents given course
+      → Leads missing told before now course answer → IsOverContents given answer ⊎ ((name : List ℕ) × (answer ≡ Err (ReadFault name)) × Rose (before name) (now name))
+  Leads-tells missing told before now (Ends end) answer p e = inl (subst (IsOverContents given) (sym e) p)
+  Leads-tells missing told before now (Asks name next) answer p (inl fault) = inr (name, fault.0, fault.1)
+  Leads-tells missing told before now (Asks name next) answer p (inr read) = Leads-tells missing told before now (next read.0) answer (p read.0) read.2
+  Leads-tells missing told before now (Finds matter next) answer p l = by l.0 l.1.0 (λ x. Leads-tells missing told before now (next x) answer (p.1 x)) l.2
     where
       Told : Type 0
       Told = IsOverContents given answer ⊎ ((name : List ℕ) × (answer ≡ Err (ReadFault name)) × Rose (before name) (now name))
 
-      by : (r : Result (Found matter) Refusal) → IsFound matter r → ((x : Found matter) → Leads told before now (next x) answer → Told)
-          → MatchResult r (λ x. Leads told before now (next x) answer) (λ e. answer ≡ Err e) → Told
+      by : (r : Result (Found matter) Refusal) → IsFound matter r → ((x : Found matter) → Leads missing told before now (next x) answer → Told)
+          → MatchResult r (λ x. Leads missing told before now (next x) answer) (λ e. answer ≡ Err e) → Told
       by (Ok x) said more m = more x m
       by (Err e) said more m = inl (subst (IsOverContents given) (sym m) (p.0 e said))
 
@@ -181,12 +181,12 @@ abbrev Tells : (List ℕ → ℕ) → (List ℕ → ℕ) → Option Command → 
 Tells before now None answer = answer ≡ Err Usage
 Tells before now (Some command) answer = IsOverContents command.order answer ⊎ ((name : List ℕ) × (answer ≡ Err (ReadFault name)) × Rose (before name) (now name))
 
-course-tells : (told : List ℕ → Option (List ℕ)) (before now : List ℕ → ℕ) (command : Option Command) (answer : Answer)
-    → Gives told before now (course_of command) answer → (answer ≡ Err Memory) ⊎ Tells before now command answer
-course-tells told before now command answer (inl memory) = inl memory
-course-tells told before now None answer (inr leads) = inr leads
-course-tells told before now (Some command) answer (inr leads) =
-    inr (Leads-tells command.order told before now (command_course command) answer (command-ends command) leads)
+course-tells : (missing : List ℕ → Bool) (told : List ℕ → Option (List ℕ)) (before now : List ℕ → ℕ) (command : Option Command) (answer : Answer)
+    → Gives missing told before now (course_of command) answer → (answer ≡ Err Memory) ⊎ Tells before now command answer
+course-tells missing told before now command answer (inl memory) = inl memory
+course-tells missing told before now None answer (inr leads) = inr leads
+course-tells missing told before now (Some command) answer (inr leads) =
+    inr (Leads-tells command.order missing told before now (command_course command) answer (command-ends command) leads)
 
 -- what a status of an answer over contents tells
 pub record StatusOver (given : Option (List ℕ)) (status : ℕ) : Type 0 where
@@ -251,10 +251,10 @@ delivered-tells (Some command) before now taken faults heard misses out_old out_
     let three : status ≡ 3 = d.0 ∙ ap status_of is in
     record { usage = λ h. absurd (omega arith); read_fault = λ h. (fault.0, fault.2); write_fault = λ h. absurd (omega arith) }
 
-pub Answers-tells : {S M : Type 0} {told : List ℕ → Option (List ℕ)} {before now : List ℕ → ℕ} {taken : S → Option (List ℕ)} {faults : S → ℕ} {heard : M → Option (List ℕ)} {misses : M → ℕ}
+pub Answers-tells : {S M : Type 0} {missing : List ℕ → Bool} {told : List ℕ → Option (List ℕ)} {before now : List ℕ → ℕ} {taken : S → Option (List ℕ)} {faults : S → ℕ} {heard : M → Option (List ℕ)} {misses : M → ℕ}
     {out_old out_new : S} {old new : M} {status : ℕ} (words : List (List ℕ))
-    → Answers told before now taken faults heard misses (course words) out_old out_new old new status
+    → Answers missing told before now taken faults heard misses (course words) out_old out_new old new status
     → StatusTells (command_of words) before now (faults out_old) (faults out_new) status
-Answers-tells {told = told} {before = before} {now = now} {taken = taken} {faults = faults} {heard = heard} {misses = misses} {out_old = out_old} {out_new = out_new} {old = old} {new = new} {status = status} words r =
+Answers-tells {missing = missing} {told = told} {before = before} {now = now} {taken = taken} {faults = faults} {heard = heard} {misses = misses} {out_old = out_old} {out_new = out_new} {old = old} {new = new} {status = status} words r =
     delivered-tells (command_of words) before now taken faults heard misses out_old out_new old new status r.answer
-    (course-tells told before now (command_of words) r.answer r.cause) r.delivered
+    (course-tells missing told before now (command_of words) r.answer r.cause) r.delivered

@@ -24,15 +24,15 @@ use Rattle.rpt_cli.specs.Tables.{table_file, table_of}
 use Rattle.rpt_cli.specs.Command.{asks_within, bytes_course, command_course, explain_course, explain_text, files_course, is_made, join_course, mode_course, most_table_bytes, query_course, query_of_script, sample_course, tables_course, unless_overflow}
 use Rattle.rpt_cli.specs.Explained.{AreLoaded, IsRunOf}
 
-module _ (told : List ℕ → Option (List ℕ)) (before now : List ℕ → ℕ) (text : List ℕ) where
+module _ (missing : List ℕ → Bool) (told : List ℕ → Option (List ℕ)) (before now : List ℕ → ℕ) (text : List ℕ) where
   -- the course leads to the text
   abbrev Says : Course → Type 0
-  Says course = Leads told before now course (Ok text)
+  Says course = Leads missing told before now course (Ok text)
 
   -- a file was read within its limit
   asked : (limit : ℕ) (name : List ℕ) (next : List ℕ → Course) → Says (asks_within limit name next) → (bytes : List ℕ) × Tells (told name) bytes × Says (next bytes)
   asked limit name next (inl p) = absurd (let e : Ok text ≡ Err (ReadFault name) = p.0 in cc)
-  asked limit name next (inr p) = (p.0, p.1, by (nat_lt limit (length p.0)) p.2)
+  asked limit name next (inr p) = (p.0, p.1.contents, by (nat_lt limit (length p.0)) p.2)
     where
       by : (b : Bool) → Says (if b then Ends (Err (TooLarge name)) else next p.0) → Says (next p.0)
       by true l = absurd (let e : Ok text ≡ Err (TooLarge name) = l in cc)

@@ -1,4 +1,5 @@
 mod Courses
+mod KeptFacts
 mod Causes
 mod Outcomes
 mod OrderFacts
@@ -12,3 +13,4 @@ mod ExplainedFacts
 mod CountsFacts
 mod ReportFacts
 mod SampleFacts
+mod OutcomeFacts

@@ -1,12 +1,9 @@
 -- That there is one way in which a query is prepared or refused.
 use Rattle.std.proofs.Common.{◌≡◌, ◌∙◌, ◌⊎◌, inl, inr, ap, sym, subst, refl, ℕ, ◌<◌, List, length}
-use Rattle.std.proofs.lemmas.Bool.{cases_order}
 use Rattle.std.specs.Prelude.{Bool, true, false, Option, None, Some, Result, Ok, Err}
-use Rattle.column_classes.specs.Variables.{QueryVariables}
-use Rattle.column_classes.proofs.Unique.{variables-unique}
+use Rattle.column_classes.specs.Variables.{AreQueryVariables, QueryVariables}
+use Rattle.column_classes.specs.declared.columns.Equality.{Equality}
 use Rattle.join_graph.specs.JoinList.{IsAcyclic}
-use Rattle.join_graph.specs.Weights.{weight_of}
-use Rattle.join_graph.proofs.WeightFacts.{one-best}
 use Rattle.largest_root.specs.Greedy.{IsCyclic}
 use Rattle.safe_subjoin.specs.SafeOrder.{IsFirstUnsafe}
 use Rattle.rpt_engine.specs.Prepared.{IsAllowed, IsUnsafeAt}
@@ -46,19 +43,16 @@ why-refused query order force (RowsOverflow prefix) h = absurd h
 why-refused query order force WriteFault h = absurd h
 why-refused query order force Memory h = absurd h
 
--- the first unsafe prefix is one
-first-unsafe : (vs : List (List ℕ)) (order : List ℕ) (a b : ℕ) → IsFirstUnsafe vs order a → IsFirstUnsafe vs order b → a ≡ b
-first-unsafe vs order a b p q = by (cases_order a b)
-  where
-    by : (a ≡ b) ⊎ ((a < b) ⊎ (b < a)) → a ≡ b
-    by (inl same) = same
-    by (inr (inl lt)) = absurd (p.unsafe (q.before a p.some lt))
-    by (inr (inr lt)) = absurd (q.unsafe (p.before b q.some lt))
+-- what the lower crates' laws say: a query has one list of variables, and one reason why it is refused
+pub record HasOneReason : Type 0 where
+  pub variables : (widths : List ℕ) (equalities : List Equality) (a b : QueryVariables) → AreQueryVariables widths equalities a → AreQueryVariables widths equalities b → a ≡ b
+  pub cyclic : (vs : List (List ℕ)) (a m b n : ℕ) → IsCyclic vs a m → IsCyclic vs b n → (a ≡ b) × (m ≡ n)
+  pub prefix : (vs : List (List ℕ)) (order : List ℕ) (a b : ℕ) → IsFirstUnsafe vs order a → IsFirstUnsafe vs order b → a ≡ b
 
-unsafe-one : (vs : List (List ℕ)) (order : Option (List ℕ)) (force : Bool) (a b : ℕ) → IsUnsafeAt vs order force a → IsUnsafeAt vs order force b → a ≡ b
-unsafe-one vs None force a b p q = absurd p
-unsafe-one vs (Some order) true a b p q = absurd p
-unsafe-one vs (Some order) false a b p q = first-unsafe vs order a b p q
+unsafe-one : HasOneReason → (vs : List (List ℕ)) (order : Option (List ℕ)) (force : Bool) (a b : ℕ) → IsUnsafeAt vs order force a → IsUnsafeAt vs order force b → a ≡ b
+unsafe-one laws vs None force a b p q = absurd p
+unsafe-one laws vs (Some order) true a b p q = absurd p
+unsafe-one laws vs (Some order) false a b p q = laws.prefix vs order a b p q
 
 -- what is allowed has no unsafe prefix
 allowed-safe : (vs : List (List ℕ)) (order : Option (List ℕ)) (force : Bool) (prefix : ℕ) → IsAllowed vs order force → IsUnsafeAt vs order force prefix → ⊥
@@ -72,9 +66,9 @@ some-same a b e = cc
 none-some : {X : Type 0} (a : X) → ◌≡◌ {A = Option X} None (Some a) → ⊥
 none-some a e = cc e
 
-module _ (query : Query) (order : Option (List ℕ)) (force : Bool) where
+module _ (laws : HasOneReason) (query : Query) (order : Option (List ℕ)) (force : Bool) where
   one-known : (a b : QueryVariables) → AreKnown query a → AreKnown query b → a ≡ b
-  one-known a b p q = variables-unique (widths_of query) query.equalities a b p q
+  one-known a b p q = laws.variables (widths_of query) query.equalities a b p q
 
   -- a cycle is none of other variables
   not-both : (a b : QueryVariables) (best needed : ℕ) → AreKnown query a → AreKnown query b → IsAcyclic a.sets → IsCyclic b.sets best needed → ⊥
@@ -83,9 +77,8 @@ module _ (query : Query) (order : Option (List ℕ)) (force : Bool) where
   one-refusal : (e f : Refusal) → Refused query order force e → Refused query order force f → f ≡ e
   one-refusal e f (ByCycle best needed a p cyclic) (ByCycle most sum b q other) =
       let here : IsCyclic a.sets most sum = subst (λ (k : QueryVariables). IsCyclic k.sets most sum) (one-known b a q p) other in
-      let same : most ≡ best = one-best (length a.sets) (weight_of a.sets) most best here.heaviest cyclic.heaviest in
-      let needs : sum ≡ needed = here.sum ∙ sym cyclic.sum in
-      rw (same, needs) refl
+      let same = laws.cyclic a.sets most sum best needed here cyclic in
+      rw (same.0, same.1) refl
   one-refusal e f (ByCycle best needed a p cyclic) (ByNames b q acyclic none) = absurd (not-both b a best needed q p acyclic cyclic)
   one-refusal e f (ByCycle best needed a p cyclic) (ByPrefix prefix b q acyclic named is at) = absurd (not-both b a best needed q p acyclic cyclic)
   one-refusal e f (ByNames a p acyclic none) (ByCycle most sum b q cyclic) = absurd (not-both a b most sum p q acyclic cyclic)
@@ -97,7 +90,7 @@ module _ (query : Query) (order : Option (List ℕ)) (force : Bool) where
       let same : name ≡ named = some-same name named (sym names ∙ is) in
       let here : IsUnsafeAt a.sets named force last =
       subst (λ (k : QueryVariables). IsUnsafeAt k.sets named force last) (one-known b a q p) (subst (λ (o : Option (List ℕ)). IsUnsafeAt b.sets o force last) same there) in
-      ap (λ (n : ℕ). UnsafeOrder n) (unsafe-one a.sets named force last prefix here at)
+      ap (λ (n : ℕ). UnsafeOrder n) (unsafe-one laws a.sets named force last prefix here at)
 
   not-refused : (found : Prepared) (e : Refusal) → IsPrepared query order force (Ok found) → Refused query order force e → ⊥
   not-refused found e h (ByCycle best needed b q cyclic) = not-both found.known b best needed h.0 q h.1 cyclic
@@ -122,14 +115,14 @@ module _ (query : Query) (order : Option (List ℕ)) (force : Bool) where
   prepared-only (Err e) (Err f) h k = ap Err (one-refusal e f (why-refused query order force e h) (why-refused query order force f k))
 
 -- a query that is prepared is passed, and one that is refused ends the course
-module _ (query : Query) (order : Option (List ℕ)) (force : Bool) where
+module _ (laws : HasOneReason) (query : Query) (order : Option (List ℕ)) (force : Bool) where
   pub prepared-Passes : (found : Prepared) → IsPrepared query order force (Ok found) → PassesUnasked (Finds (Preparing query order force)) found
-  prepared-Passes found is = λ told before end next answer gives.
-      finds-Gives told before end (Preparing query order force) next found answer (is, λ other other_is. prepared-only query order force (Ok found) other is other_is) gives
+  prepared-Passes found is = λ missing told before end next answer gives.
+      finds-Gives missing told before end (Preparing query order force) next found answer (is, λ other other_is. prepared-only laws query order force (Ok found) other is other_is) gives
 
   pub prepared-Stops : (e : Refusal) → (e ≡ Memory) ⊎ IsPrepared query order force (Err e) → StopsUnasked (Finds (Preparing query order force)) e
-  prepared-Stops e is = λ told before end next. refuses-Gives told before end (Preparing query order force) next e (found is)
+  prepared-Stops e is = λ missing told before end next. refuses-Gives missing told before end (Preparing query order force) next e (found is)
     where
       found : (e ≡ Memory) ⊎ IsPrepared query order force (Err e) → (e ≡ Memory) ⊎ IsFoundAs (Preparing query order force) (Err e)
       found (inl memory) = inl memory
-      found (inr h) = inr (h, λ other other_is. prepared-only query order force (Err e) other h other_is)
+      found (inr h) = inr (h, λ other other_is. prepared-only laws query order force (Err e) other h other_is)

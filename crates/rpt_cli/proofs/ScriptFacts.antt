@@ -1,5 +1,5 @@
 -- That a script's bytes are read as one thing.
-use Rattle.std.proofs.Common.{◌≡◌, ◌⊎◌, ◌∙◌, inl, inr, ap, sym, subst, List, ℕ, length}
+use Rattle.std.proofs.Common.{Bool, ◌≡◌, ◌⊎◌, ◌∙◌, inl, inr, ap, sym, subst, List, ℕ, length}
 use Rattle.std.specs.Prelude.{IfErr, IfOk, Option, Result, Ok, Err}
 use Rattle.sql_lex.specs.declared.tokens.Token.{Token}
 use Rattle.sql_lex.specs.declared.tokens.LexError.{LexError}
@@ -106,23 +106,23 @@ bad-only-as bytes e offset is none same said h = bad-only bytes offset (λ token
     by other (inr a) = let same : lex_error.At offset ≡ lex_error.At other = sym is ∙ a in cc
 
 -- what the bytes of a script lead to, its file leads to
-module _ {F : Type 0} (contents : F → List ℕ → Option (List ℕ)) (faults : F → List ℕ → ℕ) (old new : F) (name bytes seen : List ℕ) (same : seen ≡ bytes)
-    (read : Passes contents faults old new (asks_within MAX_SCRIPT_BYTES name) bytes) where
-  file-Passes : (query : Query) → PassesUnasked (bytes_course seen) query → Passes contents faults old new (script_course name) query
+module _ {F : Type 0} (missing : F → List ℕ → Bool) (contents : F → List ℕ → Option (List ℕ)) (faults : F → List ℕ → ℕ) (old new : F) (name bytes seen : List ℕ) (same : seen ≡ bytes)
+    (read : Passes missing contents faults old new (asks_within MAX_SCRIPT_BYTES name) bytes) where
+  file-Passes : (query : Query) → PassesUnasked (bytes_course seen) query → Passes missing contents faults old new (script_course name) query
   file-Passes query passes = λ next end answer gives.
       read (λ bs. bytes_course bs next) end answer
-      (subst (λ (bs : List ℕ). Gives (contents new) (faults new) end (bytes_course bs next) answer) same (passes (contents new) (faults new) end next answer gives))
+      (subst (λ (bs : List ℕ). Gives (missing new) (contents new) (faults new) end (bytes_course bs next) answer) same (passes (missing new) (contents new) (faults new) end next answer gives))
 
-  file-Stops : (e : Refusal) → StopsUnasked (bytes_course seen) e → Stops contents faults old new (script_course name) e
+  file-Stops : (e : Refusal) → StopsUnasked (bytes_course seen) e → Stops missing contents faults old new (script_course name) e
   file-Stops e stops = λ next.
       read (λ bs. bytes_course bs next) (faults new) (Err e)
-      (subst (λ (bs : List ℕ). Gives (contents new) (faults new) (faults new) (bytes_course bs next) (Err e)) same (stops (contents new) (faults new) (faults new) next))
+      (subst (λ (bs : List ℕ). Gives (missing new) (contents new) (faults new) (faults new) (bytes_course bs next) (Err e)) same (stops (missing new) (contents new) (faults new) (faults new) next))
 
   -- the same of what the bytes ask for, and of why they ask for nothing
-  pub query-Passes : (found : Result BoundQuery Refusal) → IfOk found (λ bound. PassesUnasked (bytes_course seen) bound.query) → IfOk found (λ bound. Passes contents faults old new (script_course name) bound.query)
+  pub query-Passes : (found : Result BoundQuery Refusal) → IfOk found (λ bound. PassesUnasked (bytes_course seen) bound.query) → IfOk found (λ bound. Passes missing contents faults old new (script_course name) bound.query)
   query-Passes (Ok bound) passes = file-Passes bound.query passes
   query-Passes (Err e) passes = tt
 
-  pub query-Stops : (found : Result BoundQuery Refusal) → IfErr found (λ e. StopsUnasked (bytes_course seen) e) → IfErr found (λ e. Stops contents faults old new (script_course name) e)
+  pub query-Stops : (found : Result BoundQuery Refusal) → IfErr found (λ e. StopsUnasked (bytes_course seen) e) → IfErr found (λ e. Stops missing contents faults old new (script_course name) e)
   query-Stops (Ok bound) stops = tt
   query-Stops (Err e) stops = file-Stops e stops

@@ -1,4 +1,6 @@
 -- The course of a command: what it asks for and what it answers, in the order of refusals.
+-- The rows that comments name are those of the table of statuses and lines in docs/COMMAND.md. Rows 2 and 11 are the course's own
+-- (`Asks` of Course.antt), row 20 is of its delivery (Delivery.antt), and row 21 may come in place of any answer (`Gives`).
 use Rattle.std.specs.Prelude.{ℕ, ◌-◌, ◌∷◌, ◌++◌, sum, Bool, true, false, List, [], Result, Ok, Err, Option, None, Some, nat_lt, length, map, if◌then◌else◌}
 use Rattle.std.specs.List.{range_with_len}
 use Rattle.std.specs.Option.{unwrap_or}
@@ -31,11 +33,11 @@ use Rattle.rpt_cli.specs.Tables.{table_file, table_of}
 use Rattle.sample_gen.specs.Script.{sample_script}
 use Rattle.sample_gen.specs.Tables.{sample_tables}
 
--- a file is asked for, whose contents have at most so many bytes
+-- a file is asked for, whose contents have at most so many bytes: rows 3 and 12
 abbrev pub asks_within : ℕ → List ℕ → (List ℕ → Course) → Course
 asks_within limit name next = Asks name (λ bytes. if nat_lt limit (length bytes) then Ends (Err (TooLarge name)) else next bytes)
 
--- the bound query of a script, or its first refusal
+-- the bound query of a script, or its first refusal: row 7
 abbrev pub query_or : Option Fault → Query → Result Query Refusal
 query_or None query = Ok query
 query_or (Some fault) query = Err (Bind fault.kind fault.at)
@@ -43,7 +45,7 @@ query_or (Some fault) query = Err (Bind fault.kind fault.at)
 abbrev pub query_of_script : Script → Result Query Refusal
 query_of_script script = query_or (script_refusal script) (query_of script)
 
--- bytes are read as a script, and the course goes on with what it is bound to
+-- bytes are read as a script, rows 4 to 6, and the course goes on with what it is bound to
 abbrev pub bytes_course : List ℕ → (Query → Course) → Course
 bytes_course bytes next = Finds (Reading bytes) (λ script. goes_on (query_of_script script) next)
 
@@ -51,7 +53,8 @@ bytes_course bytes next = Finds (Reading bytes) (λ script. goes_on (query_of_sc
 abbrev pub script_course : List ℕ → (Query → Course) → Course
 script_course name next = asks_within MAX_SCRIPT_BYTES name (λ bytes. bytes_course bytes next)
 
--- a table's file is asked for, with at most so many bytes, and the course goes on with the table and the bytes that are left
+-- a table's file is asked for, with at most so many bytes, and read, rows 13 to 17; the course goes on with the table and the bytes
+-- that are left
 abbrev pub table_course : ℕ → List ℕ → Decl → ((Rows × ℕ) → Course) → Course
 table_course room folder decl next =
     asks_within room (table_file folder decl.name) (λ bytes. goes_on (table_of decl bytes) (λ table. next (table, room - length bytes)))
@@ -70,12 +73,12 @@ most_table_bytes = MAX_TABLE_BYTES
 abbrev pub load_course : List ℕ → List Decl → (List Rows → Course) → Course
 load_course folder decls next = tables_course folder next most_table_bytes [] decls
 
--- a course goes on, unless a prefix has too many tuples
+-- a course goes on, unless a prefix has too many tuples: row 19
 abbrev pub unless_overflow : Option ℕ → Course → Course
 unless_overflow None next = next
 unless_overflow (Some prefix) next = Ends (Err (RowsOverflow prefix))
 
--- The relations of a query are joined over its tables, where their rows are within the limit together: the query is planned, with
+-- The relations of a query are joined over its tables, where their rows are within the limit together, row 18: the query is planned, with
 -- the order that is given, if any is, and the course goes on with the plan, unless it overflows.
 abbrev pub join_course : FilterKind → BoundQuery → Option (List ℕ) → List Rows → (Plan → Course) → Course
 join_course filter bound order tables next =
@@ -138,7 +141,7 @@ mode_course mode.Explain filter folder bound order = explain_course filter folde
 mode_course mode.Check filter folder bound order = check_course bound order
 mode_course mode.Sample filter folder bound order = summary_course filter folder bound order
 
--- a bound query is prepared with the order that is given, and answered in the command's mode
+-- a bound query is prepared with the order that is given, rows 8 to 10, and answered in the command's mode
 abbrev pub query_course : Command → Query → Course
 query_course command query =
     Finds (Preparing query command.order command.force) (λ found.
@@ -165,7 +168,7 @@ is_made other = false
 abbrev pub command_course : Command → Course
 command_course command = if is_made command.mode then sample_course command else files_course command
 
--- words that are no command end the course at once
+-- words that are no command end the course at once: row 1
 abbrev pub course_of : Option Command → Course
 course_of None = Ends (Err Usage)
 course_of (Some command) = command_course command

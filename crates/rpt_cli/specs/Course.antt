@@ -1,6 +1,6 @@
 -- What a command makes of the files that it asks for, one after the other.
-use Rattle.std.specs.Prelude.{◌≡◌, ◌⊎◌, ℕ, ◌+◌, ◌-◌, ◌^◌, ◌<◌, min, List, Result, Ok, Err, Option, Some, IfSome, MatchResult, ⊤}
-use Rattle.rpt_outside.specs.Causes.{Rose, Tells}
+use Rattle.std.specs.Prelude.{◌≡◌, ◌⊎◌, ℕ, ◌+◌, ◌-◌, ◌^◌, ◌<◌, min, Bool, List, Result, Ok, Err, Option, Some, IfSome, MatchResult, ⊤}
+use Rattle.rpt_outside.specs.Causes.{HasContents, Rose}
 use Rattle.rpt_cli.specs.Matters.{Found, IsFound, Matter}
 use Rattle.refusal_lines.specs.declared.refusal.Refusal.{Refusal}
 use Rattle.refusal_lines.specs.declared.refusal.Refusal.TheVariants.{ReadFault, Memory}
@@ -25,19 +25,19 @@ goes_on (Err e) next = Ends (Err e)
 abbrev pub IsFoundAs : (matter : Matter) → Result (Found matter) Refusal → Type 0
 IsFoundAs matter found = IsFound matter found × ((other : Result (Found matter) Refusal) → IsFound matter other → other ≡ found)
 
--- The course leads to this answer. Each file that it asks for has the contents that are told of it, or some where none are
--- told; or reading it failed, and then the count of its name rose. What is found out is the one thing that can be found.
-abbrev pub Leads : (List ℕ → Option (List ℕ)) → (List ℕ → ℕ) → (List ℕ → ℕ) → Course → Answer → Type 0
-Leads told before now (Ends end) answer = answer ≡ end
-Leads told before now (Asks name next) answer =
+-- The course leads to this answer. Each file that it asks for is there and has the contents that are told of it, or some where none
+-- are told; or reading it failed, and then the count of its name rose. What is found out is the one thing that can be found.
+abbrev pub Leads : (List ℕ → Bool) → (List ℕ → Option (List ℕ)) → (List ℕ → ℕ) → (List ℕ → ℕ) → Course → Answer → Type 0
+Leads missing told before now (Ends end) answer = answer ≡ end
+Leads missing told before now (Asks name next) answer =
     ((answer ≡ Err (ReadFault name)) × Rose (before name) (now name))
-    ⊎ ((bytes : List ℕ) × Tells (told name) bytes × Leads told before now (next bytes) answer)
-Leads told before now (Finds matter next) answer =
-    (found : Result (Found matter) Refusal) × IsFoundAs matter found × MatchResult found (λ x. Leads told before now (next x) answer) (λ e. answer ≡ Err e)
+    ⊎ ((bytes : List ℕ) × HasContents (missing name) (told name) bytes × Leads missing told before now (next bytes) answer)
+Leads missing told before now (Finds matter next) answer =
+    (found : Result (Found matter) Refusal) × IsFoundAs matter found × MatchResult found (λ x. Leads missing told before now (next x) answer) (λ e. answer ≡ Err e)
 
 -- it leads to this answer, or memory ran out
-abbrev pub Gives : (List ℕ → Option (List ℕ)) → (List ℕ → ℕ) → (List ℕ → ℕ) → Course → Answer → Type 0
-Gives told before now course answer = (answer ≡ Err Memory) ⊎ Leads told before now course answer
+abbrev pub Gives : (List ℕ → Bool) → (List ℕ → Option (List ℕ)) → (List ℕ → ℕ) → (List ℕ → ℕ) → Course → Answer → Type 0
+Gives missing told before now course answer = (answer ≡ Err Memory) ⊎ Leads missing told before now course answer
 
 -- the answer is the course's, where all that it asks for is told
 abbrev pub IsOutcome : (List ℕ → Option (List ℕ)) → Course → Answer → Type 0

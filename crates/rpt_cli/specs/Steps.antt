@@ -1,6 +1,7 @@
 -- Words of this crate's own contracts: what the parts of the top call give.
 -- Words of this crate's own contracts.
-use Rattle.std.specs.Prelude.{◌≡◌, ◌⊎◌, ℕ, List, Result, Ok, Err, Option, Some, None, length}
+use Rattle.std.specs.Prelude.{◌≡◌, ◌⊎◌, ℕ, Bool, List, Result, Ok, Err, Option, Some, None, length}
+use Rattle.rpt_outside.specs.Causes.{NeverFalls}
 use Rattle.sql_grammar.specs.declared.tree.Script.{Script}
 use Rattle.column_table.specs.Table.{Rows}
 use Rattle.bound_query.specs.Query.{BoundQuery}
@@ -21,27 +22,31 @@ use Rattle.refusal_lines.specs.declared.refusal.Refusal.TheVariants.{Cyclic, Ord
 use Rattle.rpt_cli.specs.Course.{Answer, Course, Gives}
 use Rattle.rpt_cli.specs.Scripts.{IsScript}
 
+-- the files' contents are what they were, and no count of a file fell
+abbrev pub AreKept : {F : Type 0} → (F → List ℕ → Option (List ℕ)) → (F → List ℕ → ℕ) → F → F → Type 0
+AreKept contents faults old new = (contents new ≡ contents old) × NeverFalls (faults old) (faults new)
+
 -- The part of a course in front of what follows comes to this, over files that were so at its begin and at its end: each answer
 -- that what follows gives, the whole gives.
-abbrev pub Passes : {F X : Type 0} → (F → List ℕ → Option (List ℕ)) → (F → List ℕ → ℕ) → F → F → ((X → Course) → Course) → X → Type 0
-Passes {X = X} contents faults old new part x =
-    (next : X → Course) (end : List ℕ → ℕ) (answer : Answer) → Gives (contents new) (faults new) end (next x) answer → Gives (contents old) (faults old) end (part next) answer
+abbrev pub Passes : {F X : Type 0} → (F → List ℕ → Bool) → (F → List ℕ → Option (List ℕ)) → (F → List ℕ → ℕ) → F → F → ((X → Course) → Course) → X → Type 0
+Passes {X = X} missing contents faults old new part x =
+    (next : X → Course) (end : List ℕ → ℕ) (answer : Answer) → Gives (missing new) (contents new) (faults new) end (next x) answer → Gives (missing old) (contents old) (faults old) end (part next) answer
 
 -- the part of a course in front of what follows ends it so, whatever follows
-abbrev pub Stops : {F X : Type 0} → (F → List ℕ → Option (List ℕ)) → (F → List ℕ → ℕ) → F → F → ((X → Course) → Course) → Refusal → Type 0
-Stops {X = X} contents faults old new part e = (next : X → Course) → Gives (contents old) (faults old) (faults new) (part next) (Err e)
+abbrev pub Stops : {F X : Type 0} → (F → List ℕ → Bool) → (F → List ℕ → Option (List ℕ)) → (F → List ℕ → ℕ) → F → F → ((X → Course) → Course) → Refusal → Type 0
+Stops {X = X} missing contents faults old new part e = (next : X → Course) → Gives (missing old) (contents old) (faults old) (faults new) (part next) (Err e)
 
 -- the same of a part that asks for no file
 abbrev pub PassesUnasked : {X : Type 0} → ((X → Course) → Course) → X → Type 0
 PassesUnasked {X = X} part x =
-    (told : List ℕ → Option (List ℕ)) (before end : List ℕ → ℕ) (next : X → Course) (answer : Answer) → Gives told before end (next x) answer → Gives told before end (part next) answer
+    (missing : List ℕ → Bool) (told : List ℕ → Option (List ℕ)) (before end : List ℕ → ℕ) (next : X → Course) (answer : Answer) → Gives missing told before end (next x) answer → Gives missing told before end (part next) answer
 
 abbrev pub StopsUnasked : {X : Type 0} → ((X → Course) → Course) → Refusal → Type 0
-StopsUnasked {X = X} part e = (told : List ℕ → Option (List ℕ)) (before end : List ℕ → ℕ) (next : X → Course) → Gives told before end (part next) (Err e)
+StopsUnasked {X = X} part e = (missing : List ℕ → Bool) (told : List ℕ → Option (List ℕ)) (before end : List ℕ → ℕ) (next : X → Course) → Gives missing told before end (part next) (Err e)
 
 -- the course, which asks for no file, leads to this answer, or memory ran out
 abbrev pub GivesUnasked : Course → Answer → Type 0
-GivesUnasked course answer = (told : List ℕ → Option (List ℕ)) (before now : List ℕ → ℕ) → Gives told before now course answer
+GivesUnasked course answer = (missing : List ℕ → Bool) (told : List ℕ → Option (List ℕ)) (before now : List ℕ → ℕ) → Gives missing told before now course answer
 
 -- what a definition says; or memory ran out
 abbrev pub Makes : {X : Type 0} → Result X Refusal → Result X Refusal → Type 0

@@ -8,7 +8,7 @@ use crate::ready::Ready;
 use crate::reports::report_on;
 use refusal_lines::Refusal;
 use rpt_base::limits::MAX_RELATIONS;
-use rpt_engine::plan_for;
+use rpt_engine::{has_plan, plan_for};
 use std::alloc::Global;
 
 // The sizes of as many relations as there can be, of which nothing is known.
@@ -19,6 +19,8 @@ pub(crate) fn check(alloc: Global, ready: &Ready) -> Result<Vec<u8>, Refusal>
     requires { IsReady ready.now.bound ready.now.prepared ready.now.options }
     ensures { GivesUnasked (check_course ready.now.bound ready.now.options.order) (bytes_of result) }
 {
+    // Its clause says that there is one plan.
+    has_plan();
     let relations = ready.bound.relations() as usize;
     let Ok(plan) = plan_for(
         alloc,

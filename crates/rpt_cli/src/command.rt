@@ -1,7 +1,7 @@
 // The top call.
-ghost use Rattle.std.specs.Prelude.{◌≡◌, ◌≢◌, ◌⊎◌, ◌<◌, ◌+◌, ◌-◌, ◌^◌, List, ℕ, Some, min, IfSome, IsOk, IsOkAnd, IsSome};
+ghost use Rattle.std.specs.Prelude.{◌≡◌, ◌≢◌, ◌⊎◌, ◌<◌, ◌≤◌, ◌+◌, ◌-◌, ◌^◌, List, ℕ, Some, min, IfSome, IsOk, IsOkAnd, IsSome};
 ghost use Rattle.std.specs.Io.KnownBytes.{Appends};
-ghost use Rattle.rpt_outside.specs.Causes.{Rose};
+ghost use Rattle.rpt_outside.specs.Causes.{NeverFalls, Rose};
 ghost use Rattle.command_words.specs.Words.{command_of, words_of};
 ghost use Rattle.command_words.specs.declared.words.Command.{Command};
 ghost use Rattle.command_words.specs.declared.words.Mode.TheVariants as mode;
@@ -33,7 +33,7 @@ pub fn run_command<R: Threads + Sync, F: Files, S: Sink, M: Sink, G: Gate + Sync
     gate: &G,
 ) -> u8
     // The whole truth: some answer has its cause, and is what was delivered.
-    ensures answers { Answers (F.contents files.old) (F.faults files.old) (F.faults files.new)
+    ensures answers { Answers (F.is_missing files.old) (F.contents files.old) (F.faults files.old) (F.faults files.new)
         S.taken S.faults M.taken M.faults (course (words_of words.now))
         out.old out.new messages.old messages.new result }
 
@@ -49,6 +49,11 @@ pub fn run_command<R: Threads + Sync, F: Files, S: Sink, M: Sink, G: Gate + Sync
     ensures usage { result ≡ 2 → IfSome (command_of (words_of words.now)) (λ command. IsSome command.order) }
     ensures read_fault { result ≡ 3 → (name : List ℕ) × Rose (F.faults files.old name) (F.faults files.new name) }
     ensures write_fault { result ≡ 4 → Rose (S.faults out.old) (S.faults out.new) }
+
+    // The files' contents are what they were, and no count of faults falls.
+    ensures contents { F.contents files.new ≡ F.contents files.old }
+    ensures later { NeverFalls (F.faults files.old) (F.faults files.new) }
+    ensures sinks_later { (S.faults out.old ≤ S.faults out.new) × (M.faults messages.old ≤ M.faults messages.new) }
 
     // Nothing is put out on any other status, and no message on status 0.
     ensures silent { result ≢ 0 → result ≢ 4 → out.new ≡ out.old }

@@ -11,6 +11,7 @@ mod deliver;
 mod explain;
 mod fetch;
 mod joins;
+mod laws;
 mod modes;
 mod orders;
 mod query;
@@ -24,4 +25,5 @@ mod tables;
 
 pub use command::run_command;
 pub use command_words::{Command, Mode, WordsError, read_words};
+pub use laws::{has_one_outcome, has_outcome};
 pub use refusal_lines::{Refusal, put_line};

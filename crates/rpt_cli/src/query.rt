@@ -5,7 +5,7 @@ ghost use Rattle.sql_grammar.specs.declared.tree.Script.{Script as Tree};
 ghost use Rattle.refusal_lines.specs.declared.refusal.Refusal.{Refusal as Why};
 ghost use Rattle.rpt_cli.specs.Command.{bytes_course, query_of_script, script_course};
 ghost use Rattle.rpt_cli.specs.Scripts.{IsScript};
-ghost use Rattle.rpt_cli.specs.Steps.{Passes, PassesUnasked, SaysScript, Stops, StopsUnasked};
+ghost use Rattle.rpt_cli.specs.Steps.{AreKept, Passes, PassesUnasked, SaysScript, Stops, StopsUnasked};
 
 use crate::fetch::fetch;
 use binder::{BindError, Bound, bind};
@@ -23,8 +23,9 @@ pub(crate) fn read_query<F: Files>(
     files: &mut F,
     name: &Str,
 ) -> Result<Bound, Refusal>
-    ensures passes { IfOk result (λ bound. Passes F.contents F.faults files.old files.new (script_course name.now) bound.query) }
-    ensures refused { IfErr result (λ e. Stops F.contents F.faults files.old files.new (script_course name.now) e) }
+    ensures passes { IfOk result (λ bound. Passes F.is_missing F.contents F.faults files.old files.new (script_course name.now) bound.query) }
+    ensures refused { IfErr result (λ e. Stops F.is_missing F.contents F.faults files.old files.new (script_course name.now) e) }
+    ensures kept { AreKept F.contents F.faults files.old files.new }
 {
     match fetch(alloc, files, name, MAX_SCRIPT_BYTES) {
         Ok(bytes) => query_in(alloc, &bytes),
@@ -39,7 +40,11 @@ pub(crate) fn query_in(alloc: Global, bytes: &[u8]) -> Result<Bound, Refusal>
     ensures refused { IfErr result (λ e. StopsUnasked (bytes_course bytes.now) e) }
 {
     match read_script(alloc, bytes) {
-        Ok(script) => bind_script(alloc, &script),
+        Ok(script) => {
+            let bound = bind_script(alloc, &script);
+            drop(script);
+            bound
+        }
         Err(refusal) => Err(refusal),
     }
 }

@@ -32,6 +32,32 @@ pub(crate) fn make_ready(alloc: Global, bound: Bound, command: &Command) -> Resu
         (Ok (record { known = bound.known; order = ready.options.order }))) }
     ensures refused { IfErr result (λ e. (e ≡ Memory) ⊎ IsPrepared bound.query command.now.order command.now.force (Err e)) }
 {
+    match prepare_for(alloc, &bound, command) {
+        Ok((prepared, options)) => Ok(Ready {
+            bound,
+            prepared,
+            options,
+        }),
+        Err(refusal) => {
+            drop(bound);
+            Err(refusal)
+        }
+    }
+}
+
+// The same of a query that is lent: one that is held where a function branches makes its proof much larger.
+fn prepare_for(
+    alloc: Global,
+    bound: &Bound,
+    command: &Command,
+) -> Result<(Prepared, Options), Refusal>
+    requires fits { IsWithinLimits command.now }
+    ensures ready { IfOk result (λ made. IsReady bound.now made.0 made.1) }
+    ensures filter { IfOk result (λ made. made.1.filter ≡ command.now.filter) }
+    ensures found { IfOk result (λ made. IsPrepared bound.now.query command.now.order command.now.force
+        (Ok (record { known = bound.now.known; order = made.1.order }))) }
+    ensures refused { IfErr result (λ e. (e ≡ Memory) ⊎ IsPrepared bound.now.query command.now.order command.now.force (Err e)) }
+{
     let mut options = Options {
         filter: command.filter,
         workers: command.workers,
@@ -42,11 +68,11 @@ pub(crate) fn make_ready(alloc: Global, bound: Bound, command: &Command) -> Resu
     // What the variables are is told with their sets.
     let _sets = bound.var_sets();
     // Whether there is a join list comes first.
-    let prepared = match prepare(alloc, &bound, &options) {
+    let prepared = match prepare(alloc, bound, &options) {
         Ok(prepared) => prepared,
         Err(error) => return Err(refusal_of(error)),
     };
-    let given = match order_of(alloc, &bound, &command.order) {
+    let given = match order_of(alloc, bound, &command.order) {
         Ok(given) => given,
         Err(refusal) => return Err(refusal),
     };
@@ -54,11 +80,7 @@ pub(crate) fn make_ready(alloc: Global, bound: Bound, command: &Command) -> Resu
         return Err(refusal_of(error));
     }
     options.order = given;
-    Ok(Ready {
-        bound,
-        prepared,
-        options,
-    })
+    Ok((prepared, options))
 }
 
 fn refusal_of(error: PrepareError) -> Refusal

@@ -4,6 +4,7 @@ ghost use Rattle.command_words.specs.Words.{IsWithinLimits, words_of};
 ghost use Rattle.rpt_cli.specs.Course.{Gives};
 ghost use Rattle.rpt_cli.specs.Command.{command_course, course, files_course, is_made};
 ghost use Rattle.std.specs.Prelude.{◌≡◌};
+ghost use Rattle.rpt_cli.specs.Steps.{AreKept};
 
 use crate::modes::answer_bound;
 use crate::query::read_query;
@@ -22,7 +23,8 @@ pub(crate) fn reply_to<R: Threads + Sync, F: Files, G: Gate + Sync>(
     files: &mut F,
     gate: &G,
 ) -> Result<Vec<u8>, Refusal>
-    ensures { Gives (F.contents files.old) (F.faults files.old) (F.faults files.new) (course (words_of words.now)) (bytes_of result) }
+    ensures gives { Gives (F.is_missing files.old) (F.contents files.old) (F.faults files.old) (F.faults files.new) (course (words_of words.now)) (bytes_of result) }
+    ensures kept { AreKept F.contents F.faults files.old files.new }
 {
     match read_words(alloc, words) {
         Ok(command) => follow(rt, alloc, &command, files, gate),
@@ -40,7 +42,8 @@ fn follow<R: Threads + Sync, F: Files, G: Gate + Sync>(
     gate: &G,
 ) -> Result<Vec<u8>, Refusal>
     requires fits { IsWithinLimits command.now }
-    ensures { Gives (F.contents files.old) (F.faults files.old) (F.faults files.new) (command_course command.now) (bytes_of result) }
+    ensures gives { Gives (F.is_missing files.old) (F.contents files.old) (F.faults files.old) (F.faults files.new) (command_course command.now) (bytes_of result) }
+    ensures kept { AreKept F.contents F.faults files.old files.new }
 {
     if is_made(command.mode) {
         answer_sample(rt, alloc, command, gate)
@@ -68,7 +71,8 @@ fn answer_files<R: Threads + Sync, F: Files, G: Gate + Sync>(
     gate: &G,
 ) -> Result<Vec<u8>, Refusal>
     requires fits { IsWithinLimits command.now }
-    ensures { Gives (F.contents files.old) (F.faults files.old) (F.faults files.new) (files_course command.now) (bytes_of result) }
+    ensures gives { Gives (F.is_missing files.old) (F.contents files.old) (F.faults files.old) (F.faults files.new) (files_course command.now) (bytes_of result) }
+    ensures kept { AreKept F.contents F.faults files.old files.new }
 {
     match read_query(alloc, files, &command.script) {
         Ok(bound) => answer_bound(rt, alloc, command, bound, files, gate),

@@ -6,6 +6,7 @@ ghost use Rattle.rpt_engine.specs.Answered.{GivesAnswer};
 ghost use Rattle.rpt_engine.specs.Prepared.{IsReady};
 ghost use Rattle.rpt_cli.specs.Command.{answer_text, run_course};
 ghost use Rattle.rpt_cli.specs.Course.{Gives};
+ghost use Rattle.rpt_cli.specs.Steps.{AreKept};
 
 use crate::joins::answer_query;
 use crate::ready::Ready;
@@ -29,15 +30,19 @@ pub(crate) fn run<R: Threads + Sync, F: Files, G: Gate + Sync>(
     gate: &G,
 ) -> Result<Vec<u8>, Refusal>
     requires { IsReady ready.now.bound ready.now.prepared ready.now.options }
-    ensures { Gives (F.contents files.old) (F.faults files.old) (F.faults files.new)
+    ensures gives { Gives (F.is_missing files.old) (F.contents files.old) (F.faults files.old) (F.faults files.new)
         (run_course ready.now.options.filter folder.now ready.now.bound ready.now.options.order) (bytes_of result) }
+    ensures kept { AreKept F.contents F.faults files.old files.new }
 {
     let found = match answer_query(rt, alloc, ready, folder, files, gate) {
         Ok(found) => found,
         Err(refusal) => return Err(refusal),
     };
     let tables = found.tables.as_slice();
-    match answer_text(rt, alloc, &ready.bound, tables, &found.outcome) {
+    let text = answer_text(rt, alloc, &ready.bound, tables, &found.outcome);
+    // Dropped by a call: what is held where a function branches makes its proof much larger.
+    drop(found);
+    match text {
         Ok(text) => Ok(text),
         Err(_) => Err(Refusal::Memory),
     }

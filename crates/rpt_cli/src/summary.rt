@@ -7,7 +7,7 @@ ghost use Rattle.rpt_engine.specs.Prepared.{IsReady};
 ghost use Rattle.rpt_cli.specs.Command.{summary_course, summary_text};
 ghost use Rattle.rpt_cli.specs.Course.{Gives};
 ghost use Rattle.rpt_cli.specs.Sample.{hash_line, hex_digit, hex_text, size_line, size_lines};
-ghost use Rattle.rpt_cli.specs.Steps.{TellsRun};
+ghost use Rattle.rpt_cli.specs.Steps.{AreKept, TellsRun};
 
 use crate::explain::explain_text;
 use crate::joins::answer_query;
@@ -32,14 +32,17 @@ pub(crate) fn summary<R: Threads + Sync, F: Files, G: Gate + Sync>(
     gate: &G,
 ) -> Result<Vec<u8>, Refusal>
     requires { IsReady ready.now.bound ready.now.prepared ready.now.options }
-    ensures { Gives (F.contents files.old) (F.faults files.old) (F.faults files.new)
+    ensures gives { Gives (F.is_missing files.old) (F.contents files.old) (F.faults files.old) (F.faults files.new)
         (summary_course ready.now.options.filter folder.now ready.now.bound ready.now.options.order) (bytes_of result) }
+    ensures kept { AreKept F.contents F.faults files.old files.new }
 {
     let found = match answer_query(rt, alloc, ready, folder, files, gate) {
         Ok(found) => found,
         Err(refusal) => return Err(refusal),
     };
-    match summary_text(rt, alloc, ready, found.tables.as_slice(), &found.outcome) {
+    let text = summary_text(rt, alloc, ready, found.tables.as_slice(), &found.outcome);
+    drop(found);
+    match text {
         Ok(text) => Ok(text),
         Err(_) => Err(Refusal::Memory),
     }

@@ -36,7 +36,7 @@ returns-in-Ok-report_on c =
     plan-unsized c.args.ready.now.prepared.graph bound.known.sets _ c.args.ready.now.options.order c.in-Ok.plan c.requires.graph
     (take-replicate c.relations-relations.result 16 0 (omega (arith, c.relations-relations.ensures.count, c.relations-relations.ensures.limit))
     ∙ ap (λ (n : ℕ). replicate n 0) (c.relations-relations.ensures.count ∙ sym c.relations-relations.ensures.sets)) c.in-Ok.ensures.plan in
-    report-Gives bound c.args.ready.now.options.order c.in-Ok.plan c.in-Ok-report_on.text.items is
+    report-Gives c.has_plan.ensures.one bound c.args.ready.now.options.order c.in-Ok.plan c.in-Ok-report_on.text.items is
     (c.in-Ok-report_on.ensures
     ∙ ap (λ (o : List ℕ). report_of bound.query bound.known c.in-Ok.plan.tree o c.as_slice-lists.result.now None) c.as_slice-order.ensures
     ∙ ap (λ lists. report_of bound.query bound.known c.in-Ok.plan.tree c.in-Ok.plan.order lists None) c.as_slice-lists.ensures)

@@ -6,7 +6,7 @@ use Rattle.rpt_cli.proofs.Outcomes.{Answers-complete, Answers-text}
 use Rattle.rpt_cli.proofs.command.run_command.Goals as goal
 
 pub returns-clause-answers : goal.returns-clause-answers
-returns-clause-answers g c = record { answer = bytes_of c.reply_to-reply.result; cause = c.reply_to-reply.ensures; delivered = c.deliver.ensures }
+returns-clause-answers g c = record { answer = bytes_of c.reply_to-reply.result; cause = c.reply_to-reply.ensures.gives; delivered = c.deliver.ensures.delivers }
 
 pub returns-clause-text : goal.returns-clause-text
 returns-clause-text g c = λ z answer o. Answers-text answer (returns-clause-answers g c) z o

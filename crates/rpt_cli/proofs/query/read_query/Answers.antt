@@ -5,13 +5,13 @@ use Rattle.rpt_cli.proofs.query.read_query.Goals as goal
 pub returns-in-Ok-clause-passes : goal.returns-in-Ok-clause-passes
 returns-in-Ok-clause-passes g c =
     let files = g.F.Files in
-    query-Passes files.contents files.faults c.args.files.now c.fetch.new.files c.args.name.now c.in-Ok.bytes.items c.deref.result.now c.deref.ensures.value c.in-Ok.ensures.passes
+    query-Passes files.is_missing files.contents files.faults c.args.files.now c.fetch.new.files c.args.name.now c.in-Ok.bytes.items c.deref.result.now c.deref.ensures.value c.in-Ok.ensures.passes
     c.query_in.result c.query_in.ensures.passes
 
 pub returns-in-Ok-clause-refused : goal.returns-in-Ok-clause-refused
 returns-in-Ok-clause-refused g c =
     let files = g.F.Files in
-    query-Stops files.contents files.faults c.args.files.now c.fetch.new.files c.args.name.now c.in-Ok.bytes.items c.deref.result.now c.deref.ensures.value c.in-Ok.ensures.passes
+    query-Stops files.is_missing files.contents files.faults c.args.files.now c.fetch.new.files c.args.name.now c.in-Ok.bytes.items c.deref.result.now c.deref.ensures.value c.in-Ok.ensures.passes
     c.query_in.result c.query_in.ensures.refused
 
 pub returns-in-Err-clause-refused : goal.returns-in-Err-clause-refused

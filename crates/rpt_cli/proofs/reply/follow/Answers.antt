@@ -5,19 +5,21 @@ use Rattle.rpt_cli.specs.Command.{files_course, is_made, sample_course}
 use Rattle.rpt_cli.specs.Course.{Course, Gives}
 use Rattle.rpt_cli.proofs.reply.follow.Goals as goal
 
-pub returns-then-is_made : goal.returns-then-is_made
-returns-then-is_made g c =
+pub returns-then-is_made-clause-gives : goal.returns-then-is_made-clause-gives
+returns-then-is_made-clause-gives g c =
+    let missing = g.F.Files.is_missing c.args.files.now in
     let told = g.F.Files.contents c.args.files.now in
     let now = g.F.Files.faults c.args.files.now in
     let command = c.args.command.now in
     let made = cond-true (is_made command.mode) (sample_course command) (files_course command) (sym c.is_made.ensures ∙ c.if-is_made.true) in
-    subst (λ (course : Course). Gives told now now course (bytes_of c.answer_sample.result)) (sym made) (c.answer_sample.ensures told now now)
+    subst (λ (course : Course). Gives missing told now now course (bytes_of c.answer_sample.result)) (sym made) (c.answer_sample.ensures missing told now now)
 
-pub returns-else-is_made : goal.returns-else-is_made
-returns-else-is_made g c =
+pub returns-else-is_made-clause-gives : goal.returns-else-is_made-clause-gives
+returns-else-is_made-clause-gives g c =
+    let missing = g.F.Files.is_missing c.args.files.now in
     let told = g.F.Files.contents c.args.files.now in
     let now = g.F.Files.faults c.args.files.now in
     let end = g.F.Files.faults c.answer_files.new.files in
     let command = c.args.command.now in
     let read = cond-false (is_made command.mode) (sample_course command) (files_course command) (sym c.is_made.ensures ∙ c.if-is_made.false) in
-    subst (λ (course : Course). Gives told now end course (bytes_of c.answer_files.result)) (sym read) c.answer_files.ensures
+    subst (λ (course : Course). Gives missing told now end course (bytes_of c.answer_files.result)) (sym read) c.answer_files.ensures.gives

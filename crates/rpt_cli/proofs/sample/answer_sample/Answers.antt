@@ -1,4 +1,4 @@
-use Rattle.std.proofs.Common.{◌∙◌, ℕ, List}
+use Rattle.std.proofs.Common.{false, ◌∙◌, ℕ, List}
 use Rattle.std.specs.Prelude.{Err, Option, Some}
 use Rattle.rpt_outside.specs.Held.{held_bytes}
 use Rattle.rpt_outside.specs.Whole.{bytes_of}
@@ -13,7 +13,7 @@ returns-in-Ok-query_in g c =
     let number = number-said command c.as_str.result.now c.sample_number.result c.unwrap_or-number.result c.unwrap_or-number.ensures c.sample_number.ensures c.as_str.ensures in
     let held : List ℕ → Option (List ℕ) = λ name. Some (held_bytes c.in-Ok-files_in.files.files.items name) in
     sample-Gives command number c.in-Ok.ensures.tables (c.deref.ensures.value ∙ c.in-Ok.ensures.script) c.in-Ok-files_in.ensures answer
-    (c.in-Ok-query_in.ensures.passes held (λ name. 0) (λ name. 0) (query_course command) answer c.answer_bound.ensures)
+    (c.in-Ok-query_in.ensures.passes (λ name. false) held (λ name. 0) (λ name. 0) (query_course command) answer c.answer_bound.ensures.gives)
 
 pub returns : goal.returns
 returns g c =
@@ -21,4 +21,4 @@ returns g c =
     let number = number-said command c.as_str.result.now c.sample_number.result c.unwrap_or-number.result c.unwrap_or-number.ensures c.sample_number.ensures c.as_str.ensures in
     let held : List ℕ → Option (List ℕ) = λ name. Some (held_bytes c.in-Ok-files_in.files.files.items name) in
     sample-Gives command number c.in-Ok.ensures.tables (c.deref.ensures.value ∙ c.in-Ok.ensures.script) c.in-Ok-files_in.ensures (Err c.in-Err.refusal)
-    (c.in-Err.ensures.refused held (λ name. 0) (λ name. 0) (query_course command))
+    (c.in-Err.ensures.refused (λ name. false) held (λ name. 0) (λ name. 0) (query_course command))
