@@ -67,6 +67,7 @@ fn put_given<R: Files + Threads + Sync + Copy + Drop>(
         "tables" => table_calls::put_given(alloc, case, given),
         "builds" => build_calls::put_given(&rt, alloc, case, given),
         "transfers" => transfer_calls::put_given(&rt, alloc, case, given),
+        "answers" => answer_calls::put_given(&rt, alloc, case, given),
         "outside" => outside_calls::put_given(rt, alloc, case, given),
         _ => Err(CaseError::Word),
     }

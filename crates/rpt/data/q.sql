@@ -1,0 +1,1 @@
+CREATE TABLE t (x INT, y TEXT); SELECT y FROM t WHERE x = 2;
