@@ -3,7 +3,8 @@
 
 Each query is run three times for each of some settings: exact filters by one, two and four workers, Bloom filters by four, and none.
 The least wall time and the greatest resident memory are printed, how long the output is, and how many rows of all relations the filters
-keep.
+keep. Where the machine has the command `sqlite3`, it answers the same queries from the same files, once each: it imports the
+files into a database in memory, and writes the answer as CSV.
 ROWS, 1,000,000 where it isn't given, is how many rows the greatest table has. The numbers are drawn from one seed, so that two
 builds of the program answer the same queries.
 
@@ -16,6 +17,7 @@ skewed    a chain of three whose neighbours share one key in 20,000 rows each, a
 import os
 import random
 import resource
+import shutil
 import subprocess
 import sys
 import tempfile
@@ -79,6 +81,16 @@ def timed(words):
     return time.monotonic() - begun, used.ru_maxrss // 1024, length
 
 
+def sqlite(folder, script):
+    """Returns the words by which sqlite3 reads the tables' files and answers the script's query."""
+    *creates, query = script.split(";")
+    tables = [it.split()[2] for it in creates]
+    lines = [*(f"{it};" for it in creates), ".mode csv", '.separator "," "\\n"', *(f".import --skip 1 {folder}/{it}.csv {it}" for it in tables)]
+    with open(f"{folder}/sqlite.txt", "w", encoding="ascii") as file:
+        file.write("\n".join([*lines, ".headers on", f"{query};", ""]))
+    return ["sqlite3", ":memory:", "-batch", f".read {folder}/sqlite.txt"]
+
+
 SETTINGS = [("exact", 1), ("exact", 2), ("exact", 4), ("bloom", 4), ("none", 4)]
 
 
@@ -102,6 +114,9 @@ def main():
                 least, most = min(it[0] for it in runs), max(it[1] for it in runs)
                 kept = reduced([program, "explain", *words])
                 print(f"{make.__name__:9} {kind:6} {workers} {least:7.2f} s {most:6} MiB {runs[0][2]:12} bytes {kept:9} rows", flush=True)
+            if shutil.which("sqlite3"):
+                wall, memory, length = timed(sqlite(folder, script))
+                print(f"{make.__name__:9} sqlite3  {wall:7.2f} s {memory:6} MiB {length:12} bytes", flush=True)
 
 
 if __name__ == "__main__":
