@@ -26,6 +26,10 @@ IsToldFirst n hand = (p : ℕ) → p < n → IsTold hand.told p
 abbrev pub IsToldNext : ℕ → HandView → HandView → Type 0
 IsToldNext pipes before after = (n : ℕ) → n < pipes → HasSeenFirst n before → IsToldFirst (n + 1) after
 
+-- what it has seen full stays seen
+abbrev pub KeepsSeen : HandView → HandView → Type 0
+KeepsSeen before after = (p : ℕ) → HasSeen before.actor p → HasSeen after.actor p
+
 -- the hand, with these marks of pipes that it has seen full
 abbrev pub with_marks : List Bool → HandView → HandView
 with_marks seen hand = with_actor (λ a. actor a.held a.puts a.finished seen) hand

@@ -1,7 +1,8 @@
 //! The transfer phase, run by workers in rounds, and what it keeps.
 //!
 //! All workers share one board, and each has a hand of its own. In a round a worker passes the gate, and then goes over the pipes
-//! in order: on each pipe whose reads it has seen full it works, morsel by morsel, until none is left to draw. Between two rounds
+//! in order: on each pipe whose reads it has seen full it works, morsel by morsel, until none is left to draw. What it has not seen
+//! full it looks for first, a bounded number of times, since another worker's last morsels are mostly done soon. Between two rounds
 //! the hands become one, which looks at each pipe whether it is full, and is split again. The run takes no memory, and is refused
 //! nothing.
 //!

@@ -1,9 +1,11 @@
 // The rounds of the workers.
 ghost use Rattle.std.specs.Prelude.{◌≡◌, ℕ, ◌+◌, ◌<◌, All, length};
 ghost use Rattle.transfer_core.specs.Plans.{shape_of};
+ghost use Rattle.transfer_core.specs.Sound.{HasSeenReads};
 ghost use Rattle.transfer_plan.specs.Kept.{sealed_run};
-ghost use Rattle.filter_board.specs.Shares.{parts_of};
-ghost use Rattle.transfer_pass.specs.Rounds.{HasSeenFirst, IsFree, IsToldFirst, IsToldNext, all_parts};
+ghost use Rattle.filter_board.specs.Shares.{IsTold, parts_of};
+ghost use Rattle.filter_board.specs.Views.{job_in};
+ghost use Rattle.transfer_pass.specs.Rounds.{HasSeenFirst, IsFree, IsToldFirst, IsToldNext, KeepsSeen, all_parts, with_marks};
 
 use crate::hands::{join_all, sees_all, split_into};
 use crate::kept::TransferRun;
@@ -11,8 +13,13 @@ use crate::morsels::work_pipe;
 use filter_board::{Board, Hand};
 use key_codes::Placement;
 use rpt_outside::Gate;
+use std::hint::spin_loop;
 use std::thread;
 use std::thread::Threads;
+
+// How often a worker looks whether a pipe is full before it leaves the pipe to the next round: about as long as another worker
+// takes for a morsel.
+const LOOKS: u32 = 1024;
 
 /// Seals all regions of the board's plan, by as many workers as there are hands, which are all hands of the board. A worker's
 /// number is the place of its hand in the list, from 0.
@@ -94,8 +101,56 @@ fn work_round<P: Placement + Drop, G: Gate>(
     gate.pass(round, worker);
     let pipes = board.plan().pipes.as_slice().len() as u32;
     for pipe in 0..pipes {
-        if board.may_draw(hand, pipe) {
-            work_pipe(board, hand, pipe);
+        look_before(board, hand, pipe);
+        work_if_ready(board, hand, pipe);
+    }
+}
+
+// Works on a pipe if the hand has seen full what the pipe reads from.
+fn work_if_ready<P: Placement + Drop>(board: &Board<P>, hand: &mut Hand, pipe: u32)
+    requires free { IsFree board.now.of hand.old }
+    requires pipe { pipe < length board.now.plan.pipes }
+    ensures free { IsFree board.now.of hand.new }
+    ensures parts { hand.new.parts ≡ hand.old.parts }
+    ensures seen { hand.new.actor.seen ≡ hand.old.actor.seen }
+    ensures told { HasSeenReads (job_in P.seen board.now) pipe hand.old.actor → IsTold hand.new.told pipe }
+    ensures keeps { (p : ℕ) → IsTold hand.old.told p → IsTold hand.new.told p }
+{
+    if board.may_draw(hand, pipe) {
+        work_pipe(board, hand, pipe);
+    }
+}
+
+// Looks for the pipes before this one, in order, until one doesn't become full in time. A hand that may draw from the pipe already
+// looks for none.
+fn look_before<P: Placement + Drop>(board: &Board<P>, hand: &mut Hand, pipe: u32)
+    requires own { hand.old.of ≡ board.now.of }
+    requires pipe { pipe < length board.now.plan.pipes }
+    ensures same { hand.new ≡ with_marks hand.new.actor.seen hand.old }
+    ensures seen { KeepsSeen hand.old hand.new }
+{
+    if board.may_draw(hand, pipe) {
+        return;
+    }
+    for before in 0..pipe {
+        if !look_for(board, hand, before) {
+            return;
         }
     }
+}
+
+// Looks whether a pipe is full, so often at most.
+fn look_for<P: Placement + Drop>(board: &Board<P>, hand: &mut Hand, pipe: u32) -> bool
+    requires own { hand.old.of ≡ board.now.of }
+    requires pipe { pipe < length board.now.plan.pipes }
+    ensures same { hand.new ≡ with_marks hand.new.actor.seen hand.old }
+    ensures seen { KeepsSeen hand.old hand.new }
+{
+    for _ in 0..LOOKS {
+        if board.sees_full(hand, pipe) {
+            return true;
+        }
+        spin_loop();
+    }
+    false
 }
