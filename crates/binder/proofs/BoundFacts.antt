@@ -20,15 +20,16 @@ use Rattle.sql_grammar.specs.declared.tree.Items.TheVariants as items
 use Rattle.sql_grammar.specs.declared.tree.Source.{Source}
 use Rattle.column_classes.specs.declared.columns.ColumnRef.{ColumnRef}
 use Rattle.bound_query.specs.declared.output.OutColumn.{OutColumn}
-use Rattle.script_rules.specs.Scope.{IsWithinLimits, Relation, columns_of, meaning, name_of, relation_of, scope_of}
+use Rattle.script_rules.specs.Scope.{IsWithinLimits, Relation, columns_of, resolve, name_of, relation_of, scope_of}
 use Rattle.script_rules.specs.Conjuncts.{columns_in, conjuncts_of, found, is_equality}
 use Rattle.script_rules.specs.Faults.{conjunct_faults, refusal_of}
-use Rattle.bound_query.specs.Query.{IsBound, Joins, Names, Query, kinds_of}
+use Rattle.bound_query.specs.Query.{IsBound, IsEqualityOf, IsColumnOf, Query, kinds_of}
 use Rattle.column_table.specs.Table.{types_of}
 use Rattle.binder.specs.Binding.{condition_of, equality_between, equality_of, item_output, output_of, declaration, is_declared, query_of, relation_output, table_number, tables_of}
 use Rattle.script_rules.proofs.ScopeFacts.{columns_within}
-use Rattle.binder.proofs.ClearFacts.{All-flat_map, clear-within, refusal_of-none}
-use Rattle.binder.proofs.RangeFacts.{IsColumn, all-places, column-kinds, columns_in-columns, columns_under, meaning-column, scope_kinds, slice_get-there}
+use Rattle.binder.proofs.ClearFacts.{clear-within, refusal_of-none}
+use Rattle.rpt_base.proofs.ListFacts.{all-flat_map}
+use Rattle.binder.proofs.RangeFacts.{IsColumn, all-places, column-kinds, columns_in-columns, columns_under, resolve-column, scope_kinds, slice_get-there}
 use Rattle.binder.proofs.TypedFacts.{condition_of-typed}
 use Rattle.binder.proofs.TablesFacts.{IsDeclared, IsTableOf, behind-declared, behind-few, behind-own, table-of}
 
@@ -94,7 +95,7 @@ module _ (script : Script) where
   scope-length = length-map sources (relation_of script.tables)
 
   -- a column of the scope is a column of the query
-  pub column-names : (k : ColumnRef) → IsColumn scope k → Names q k
+  pub column-names : (k : ColumnRef) → IsColumn scope k → IsColumnOf q k
   column-names k h =
       let lt = slice_get_within scope k.relation h.at h.relation in
       let e = scope-length in
@@ -104,27 +105,27 @@ module _ (script : Script) where
         column = subst (λ (kinds : List ColumnType). k.column < length kinds) (sym (kinds_of-source k.relation (omega arith))) (column-kinds scope k h);
       }
 
-  between-joins : (columns : List ColumnRef) → All (IsColumn scope) columns → All (Joins q) (equality_between columns)
-  between-joins [] h = All-nil (Joins q)
-  between-joins (a ∷ []) h = All-nil (Joins q)
+  between-joins : (columns : List ColumnRef) → All (IsColumn scope) columns → All (IsEqualityOf q) (equality_between columns)
+  between-joins [] h = All-nil (IsEqualityOf q)
+  between-joins (a ∷ []) h = All-nil (IsEqualityOf q)
   between-joins (a ∷ b ∷ []) h =
-      All-cons (Joins q) (record { left = a; right = b }) [] (record { left = column-names a (h 0 a (omega arith)); right = column-names b (h 1 a (omega arith)) }) (All-nil (Joins q))
-  between-joins (a ∷ b ∷ d ∷ more) h = All-nil (Joins q)
+      All-cons (IsEqualityOf q) (record { left = a; right = b }) [] (record { left = column-names a (h 0 a (omega arith)); right = column-names b (h 1 a (omega arith)) }) (All-nil (IsEqualityOf q))
+  between-joins (a ∷ b ∷ d ∷ more) h = All-nil (IsEqualityOf q)
 
-  equality-joins : (x : Cond) → All (Joins q) (equality_of scope x)
+  equality-joins : (x : Cond) → All (IsEqualityOf q) (equality_of scope x)
   unfolding equality_of
   equality-joins x =
-      elim (is_equality x) as (λ b. All (Joins q) (cond b (equality_between (columns_in scope x)) [])) [
+      elim (is_equality x) as (λ b. All (IsEqualityOf q) (cond b (equality_between (columns_in scope x)) [])) [
         | true ↦ between-joins (columns_in scope x) (columns_in-columns scope x)
-        | false ↦ All-nil (Joins q)
+        | false ↦ All-nil (IsEqualityOf q)
       ]
 
-  pub query_of-joined : All (Joins q) q.equalities
+  pub query_of-joined : All (IsEqualityOf q) q.equalities
   unfolding query_of
-  query_of-joined = All-flat_map (Joins q) (equality_of scope) (conjuncts_of script) (λ k d lt. equality-joins _)
+  query_of-joined = all-flat_map (IsEqualityOf q) (equality_of scope) (conjuncts_of script) (λ k d lt. equality-joins _)
 
   abbrev IsShown : OutColumn → Type 0
-  IsShown o = Names q o.source
+  IsShown o = IsColumnOf q o.source
 
   relation-shown : (p : ℕ × Relation) → slice_get scope p.0 ≡ Some p.1 → All IsShown (relation_output p)
   relation-shown p e =
@@ -134,12 +135,12 @@ module _ (script : Script) where
   item-shown : (i : Item) → All IsShown (item_output scope i)
   unfolding item_output
   item-shown i =
-      All-map IsShown (λ (k : ColumnRef). record { source = k; title = option_map_or (λ t. t) i.title i.column.column }) (option_to_list (found (meaning scope i.column)))
-      (λ k d lt. column-names _ (meaning-column scope i.column k d lt))
+      All-map IsShown (λ (k : ColumnRef). record { source = k; title = option_map_or (λ t. t) i.title i.column.column }) (option_to_list (found (resolve scope i.column)))
+      (λ k d lt. column-names _ (resolve-column scope i.column k d lt))
 
   output-shown : (selected : Items) → All IsShown (output_of scope selected)
-  output-shown items.Star = All-flat_map IsShown relation_output (enumerate_from 0 scope) (λ k d lt. relation-shown _ (all-places scope k d lt))
-  output-shown (items.List list) = All-flat_map IsShown (item_output scope) list (λ k d lt. item-shown _)
+  output-shown items.Star = all-flat_map IsShown relation_output (enumerate_from 0 scope) (λ k d lt. relation-shown _ (all-places scope k d lt))
+  output-shown (items.List list) = all-flat_map IsShown (item_output scope) list (λ k d lt. item-shown _)
 
   pub query_of-shown : All IsShown q.output
   unfolding query_of

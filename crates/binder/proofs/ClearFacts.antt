@@ -1,25 +1,17 @@
 -- What a script without refusals is free of.
-use Rattle.std.proofs.Common.{◌≡◌, ℕ, Bool, true, false, not, ◌&&◌, List, [], ◌∷◌, ◌++◌, refl, arith}
+use Rattle.std.proofs.Common.{◌≡◌, Bool, true, false, not, ◌&&◌, List, [], ◌∷◌, refl}
 use Rattle.std.specs.Prelude.{All, Option, None, Some}
 use Rattle.std.specs.List.{flat_map}
 use Rattle.std.specs.Option.{option_or}
-use Rattle.std.proofs.lemmas.List.Elements.{All-append, All-cons, All-nil, All-tail}
+use Rattle.std.proofs.lemmas.List.Elements.{All-cons, All-nil}
+use Rattle.rpt_base.proofs.ListFacts.{front-empty, back-empty}
 use Rattle.sql_grammar.specs.declared.tree.Script.{Script}
 use Rattle.script_rules.specs.declared.found.Fault.{Fault}
-use Rattle.script_rules.specs.declared.kinds.BindKind.{BindKind}
 use Rattle.script_rules.specs.Scope.{IsWithinLimits, scope_of}
 use Rattle.script_rules.specs.Conjuncts.{conjuncts_of}
-use Rattle.script_rules.specs.Faults.{conjunct_faults, each_behind, fault_if, item_faults, refusal_of, source_faults, table_faults}
+use Rattle.script_rules.specs.Faults.{conjunct_faults, each_behind, item_faults, refusal_of, source_faults, table_faults}
 use Rattle.script_rules.proofs.FaultFacts.{first_of-none}
 use Rattle.script_rules.proofs.LimitFacts.{within_limits}
-
-pub front-empty : {X : Type 0} (xs ys : List X) → xs ++ ys ≡ [] → xs ≡ []
-front-empty [] ys h = refl
-front-empty (x ∷ xs) ys h = cc
-
-pub back-empty : {X : Type 0} (xs ys : List X) → xs ++ ys ≡ [] → ys ≡ []
-back-empty [] ys h = h
-back-empty (x ∷ xs) ys h = cc
 
 pub and-left : (a b : Bool) → (a && b) ≡ true → a ≡ true
 and-left true b h = refl
@@ -29,28 +21,14 @@ pub and-right : (a b : Bool) → (a && b) ≡ true → b ≡ true
 and-right true b h = h
 and-right false b h = cc
 
-pub and-both : (a b : Bool) → a ≡ true → b ≡ true → (a && b) ≡ true
-and-both true b h k = k
-and-both false b h k = cc
-
 pub not-false : (a : Bool) → not a ≡ false → a ≡ true
 not-false true h = refl
 not-false false h = cc
-
-pub not_fault : (holds : Bool) (at : ℕ) (kind : BindKind) → fault_if holds at kind ≡ [] → holds ≡ false
-unfolding fault_if
-not_fault true at kind h = cc
-not_fault false at kind h = refl
 
 -- where nothing comes of a list, nothing comes of a member
 pub each-empty : {X Y : Type 0} (f : X → List Y) (xs : List X) → flat_map f xs ≡ [] → All (λ x. f x ≡ []) xs
 each-empty f [] h = All-nil (λ x. f x ≡ [])
 each-empty f (x ∷ xs) h = All-cons (λ x. f x ≡ []) x xs (front-empty (f x) (flat_map f xs) h) (each-empty f xs (back-empty (f x) (flat_map f xs) h))
-
--- what holds of all that comes of each member
-pub All-flat_map : {X Y : Type 0} (P : Y → Type 0) (f : X → List Y) (xs : List X) → All (λ x. All P (f x)) xs → All P (flat_map f xs)
-All-flat_map P f [] h = All-nil P
-All-flat_map P f (x ∷ xs) h = All-append P (f x) (flat_map f xs) (h 0 x (omega arith)) (All-flat_map P f xs (All-tail (λ x. All P (f x)) x xs h))
 
 both-none : (a b : Option Fault) → option_or a b ≡ None → (a ≡ None) × (b ≡ None)
 both-none None b h = (refl, h)

@@ -1,4 +1,4 @@
--- The columns that a script means are columns of its relations.
+-- The columns that the names of a script resolve to are columns of its relations.
 use Rattle.std.proofs.Common.{◌≡◌, ◌∙◌, ◌<◌, ◌+◌, ℕ, zero, suc, Bool, true, false, cond, List, [], ◌∷◌, length, map, refl, ap, sym, subst, arith, nat_lt}
 use Rattle.std.specs.Prelude.{All, Option, None, Some, slice_get}
 use Rattle.std.specs.List.{enumerate_from, flat_map, position_or_len}
@@ -17,10 +17,10 @@ use Rattle.sql_grammar.specs.declared.tree.Cond.TheVariants.{rolls-And, rolls-Or
 use Rattle.sql_grammar.specs.declared.tree.Expr.{Expr}
 use Rattle.sql_grammar.specs.declared.tree.Expr.TheVariants as expr
 use Rattle.column_classes.specs.declared.columns.ColumnRef.{ColumnRef}
-use Rattle.script_rules.specs.Scope.{Relation, column_in, kind_under, may_mean, meaning, meaning_in, meanings, only_meaning, type_at}
+use Rattle.script_rules.specs.Scope.{Relation, column_in, kind_under, may_name, resolve, resolve_in, candidates, only_candidate, type_at}
 use Rattle.script_rules.specs.Conjuncts.{column_of, columns_in, columns_of_operands, found}
 use Rattle.script_rules.proofs.CondFacts.{columns_in-And, columns_in-Or, columns_in-Not, columns_in-Compare, columns_in-Between, columns_in-InList, columns_in-Like}
-use Rattle.binder.proofs.ClearFacts.{All-flat_map}
+use Rattle.rpt_base.proofs.ListFacts.{all-flat_map}
 
 -- the columns of a relation that may be missing
 abbrev pub columns_under : Option Relation → List ColumnItem
@@ -85,37 +85,37 @@ module _ (scope : List Relation) where
       All-cons (IsColumn scope) (record { relation = n; column = place }) [] (record { at = r; relation = e; column = h refl }) (All-nil (IsColumn scope))
   placed n r e place false h = All-nil (IsColumn scope)
 
-  meaning_in-column : (name : ColumnName) (n : ℕ) (r : Relation) → slice_get scope n ≡ Some r → All (IsColumn scope) (option_to_list (meaning_in name n r))
-  meaning_in-column name n r e =
-      elim (may_mean name.relation r) as (λ b. All (IsColumn scope) (option_to_list (cond b (column_in name.column n r) None))) [
+  resolve_in-column : (name : ColumnName) (n : ℕ) (r : Relation) → slice_get scope n ≡ Some r → All (IsColumn scope) (option_to_list (resolve_in name n r))
+  resolve_in-column name n r e =
+      elim (may_name name.relation r) as (λ b. All (IsColumn scope) (option_to_list (cond b (column_in name.column n r) None))) [
         | true ↦
             let place = position_or_len (λ (i : ColumnItem). bytes_eq i.name name.column) r.columns in
             placed n r e place (nat_lt place (length r.columns)) (λ h. grind (arith, nat_tests))
         | false ↦ All-nil (IsColumn scope)
       ]
 
-  meanings-columns : (name : ColumnName) → All (IsColumn scope) (meanings scope name)
-  meanings-columns name =
-      All-flat_map (IsColumn scope) (λ (p : ℕ × Relation). option_to_list (meaning_in name p.0 p.1)) (enumerate_from 0 scope)
-      (λ k d lt. meaning_in-column name _ _ (all-places scope k d lt))
+  candidates-columns : (name : ColumnName) → All (IsColumn scope) (candidates scope name)
+  candidates-columns name =
+      all-flat_map (IsColumn scope) (λ (p : ℕ × Relation). option_to_list (resolve_in name p.0 p.1)) (enumerate_from 0 scope)
+      (λ k d lt. resolve_in-column name _ _ (all-places scope k d lt))
 
-  only-found : (columns : List ColumnRef) → All (IsColumn scope) columns → All (IsColumn scope) (option_to_list (found (only_meaning columns)))
+  only-found : (columns : List ColumnRef) → All (IsColumn scope) columns → All (IsColumn scope) (option_to_list (found (only_candidate columns)))
   only-found [] h = h
   only-found (a ∷ []) h = h
   only-found (a ∷ b ∷ more) h = All-nil (IsColumn scope)
 
-  -- the column that a reference means, if it means one
-  pub meaning-column : (name : ColumnName) → All (IsColumn scope) (option_to_list (found (meaning scope name)))
-  unfolding meaning
-  meaning-column name = only-found (meanings scope name) (meanings-columns name)
+  -- the column that a reference resolves to, if it resolves to one
+  pub resolve-column : (name : ColumnName) → All (IsColumn scope) (option_to_list (found (resolve scope name)))
+  unfolding resolve
+  resolve-column name = only-found (candidates scope name) (candidates-columns name)
 
   pub column_of-column : (o : Expr) → All (IsColumn scope) (option_to_list (column_of scope o))
   unfolding column_of
-  column_of-column (expr.Column name) = meaning-column name
+  column_of-column (expr.Column name) = resolve-column name
   column_of-column (expr.Literal at v) = All-nil (IsColumn scope)
 
   operands-columns : (operands : List Expr) → All (IsColumn scope) (columns_of_operands scope operands)
-  operands-columns operands = All-flat_map (IsColumn scope) (λ o. option_to_list (column_of scope o)) operands (λ k d lt. column_of-column _)
+  operands-columns operands = all-flat_map (IsColumn scope) (λ o. option_to_list (column_of scope o)) operands (λ k d lt. column_of-column _)
 
   abbrev HasColumns : Cond → Type 0
   HasColumns x = All (IsColumn scope) (columns_in scope x)

@@ -7,6 +7,7 @@ use Rattle.std.specs.Str.{bytes_eq}
 use Rattle.std.proofs.lemmas.List.Elements.{All-append, All-cons, All-nil}
 use Rattle.std.proofs.lemmas.Option.{get_or_from_slice_get, slice_get_within}
 use Rattle.std.proofs.lemmas.Slice.Eq.{bytes_eq-Decides}
+use Rattle.std.proofs.lemmas.Bool.{or_right}
 use Rattle.column_table.specs.declared.declared.Decl.{Decl}
 use Rattle.sql_grammar.specs.declared.tree.CreateTable.{CreateTable}
 use Rattle.sql_grammar.specs.declared.tree.ColumnItem.{ColumnItem}
@@ -19,17 +20,13 @@ or-more : (b c d : Bool) → (c ≡ true → d ≡ true) → (b || c) ≡ true �
 or-more true c d f h = refl
 or-more false c d f h = f h
 
-or-right : (b c : Bool) → c ≡ true → (b || c) ≡ true
-or-right true c h = refl
-or-right false c h = h
-
 pub any-append : {X : Type 0} (p : X → Bool) (xs ys : List X) → list_any p xs ≡ true → list_any p (xs ++ ys) ≡ true
 any-append p [] ys h = cc
 any-append p (x ∷ xs) ys h = or-more (p x) _ _ (any-append p xs ys) h
 
 pub any-last : {X : Type 0} (p : X → Bool) (xs : List X) (x : X) → p x ≡ true → list_any p (xs ++ x ∷ []) ≡ true
 any-last p [] x h = ap (λ b. b || false) h
-any-last p (y ∷ xs) x h = or-right (p y) _ (any-last p xs x h)
+any-last p (y ∷ xs) x h = or_right (p y) _ (any-last p xs x h)
 
 -- the first place that passes
 pub passing-place : {X : Type 0} (p : X → Bool) (xs : List X) → list_any p xs ≡ true

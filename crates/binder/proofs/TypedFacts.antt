@@ -14,7 +14,7 @@ use Rattle.predicate.specs.declared.tree.Pred.{Pred}
 use Rattle.predicate.specs.declared.tree.Pred.TheVariants as pred
 use Rattle.predicate.specs.declared.tree.Operand.{Operand}
 use Rattle.predicate.specs.declared.tree.Operand.TheVariants as operand
-use Rattle.predicate.specs.declared.tree.Op.TheVariants as op
+use Rattle.rpt_base.specs.declared.comparisons.Comparison.TheVariants as op
 use Rattle.predicate.specs.Truth.{are_one_type, is_typed, operand_type}
 use Rattle.predicate.proofs.TruthFacts.{is_typed-And, is_typed-Or, is_typed-Not, is_typed-Compare, is_typed-Like}
 use Rattle.sql_grammar.specs.declared.tree.Cond.{Cond, map-Cond, roll-Cond}
@@ -24,17 +24,20 @@ use Rattle.sql_grammar.specs.declared.tree.Cond.TheVariants.{rolls-And, rolls-Or
 use Rattle.sql_grammar.specs.declared.tree.Cond.TheVariants as c
 use Rattle.sql_grammar.specs.declared.tree.Expr.{Expr}
 use Rattle.sql_grammar.specs.declared.tree.Expr.TheVariants as expr
-use Rattle.sql_grammar.specs.declared.tree.Op.{Op as WrittenOp}
+use Rattle.rpt_base.specs.declared.comparisons.Comparison.{Comparison}
 use Rattle.column_classes.specs.declared.columns.ColumnRef.{ColumnRef}
 use Rattle.script_rules.specs.declared.kinds.BindKind.{BindKind}
-use Rattle.script_rules.specs.Scope.{Relation, meaning}
+use Rattle.script_rules.specs.Scope.{Relation, resolve}
 use Rattle.script_rules.specs.Conjuncts.{are_of, column_of, columns_in, columns_of_operands, found, is_equality, of_two_relations}
-use Rattle.script_rules.specs.Faults.{between_faults, compare_faults, cond_faults, conjunct_faults, differ, is_same_type, join_faults, like_faults, list_faults, meaning_faults, operand_faults, reference_faults, type_faults, type_meant, type_of}
+use Rattle.script_rules.specs.Faults.{between_faults, compare_faults, cond_faults, conjunct_faults, differ, is_same_type, join_faults, like_faults, list_faults, resolved_faults, operand_faults, reference_faults, type_faults, resolved_type, type_of}
 use Rattle.column_table.specs.Table.{type_of_value}
-use Rattle.binder.specs.Binding.{condition_of, is_between, is_condition_of, is_in, negated_if, op_of, operand_of, place_meant, pred_of, pred_over, relation_of_conjunct}
+use Rattle.binder.specs.Binding.{condition_of, is_between, is_condition_of, is_in, negated_if, operand_of, resolved_place, pred_of, pred_over, relation_of_conjunct}
 use Rattle.script_rules.proofs.TypeFacts.{differ-values}
 use Rattle.script_rules.proofs.CondFacts.{columns_in-And, columns_in-Or, columns_in-Not, columns_in-Compare, columns_in-Between, columns_in-InList, columns_in-Like, cond_faults-And, cond_faults-Or, cond_faults-Not, cond_faults-Compare, cond_faults-Between, cond_faults-InList, cond_faults-Like}
-use Rattle.binder.proofs.ClearFacts.{and-both, and-left, and-right, back-empty, front-empty, not-false, not_fault}
+use Rattle.binder.proofs.ClearFacts.{and-left, and-right, not-false}
+use Rattle.script_rules.proofs.LimitFacts.{no_fault}
+use Rattle.std.proofs.lemmas.Bool.{and_from}
+use Rattle.rpt_base.proofs.ListFacts.{back-empty, front-empty}
 use Rattle.binder.proofs.RangeFacts.{IsColumn, column_of-column, scope_kinds, type_at-kinds, type_at-known}
 
 module _ (scope : List Relation) where
@@ -50,7 +53,7 @@ module _ (scope : List Relation) where
   unfolding pred_of
   pred_of-Not at inner = ap (pred_of scope) (sym (rolls-Not at inner)) ∙ fold-roll-Cond Pred (pred_over scope) (Not at inner)
 
-  pub pred_of-Compare : (at : ℕ) (o : WrittenOp) (left right : Expr) → pred_of scope (c.Compare at o left right) ≡ pred.Compare (op_of o) (operand_of scope left) (operand_of scope right)
+  pub pred_of-Compare : (at : ℕ) (o : Comparison) (left right : Expr) → pred_of scope (c.Compare at o left right) ≡ pred.Compare o (operand_of scope left) (operand_of scope right)
   unfolding pred_of
   pred_of-Compare at o left right = ap (pred_of scope) (sym (rolls-Compare at o left right)) ∙ fold-roll-Cond Pred (pred_over scope) (Compare at o left right)
 
@@ -101,12 +104,12 @@ module _ (scope : List Relation) (r : ℕ) where
   is-at : (column : ColumnRef) → are_of r (column ∷ []) ≡ true → column.relation ≡ r
   is-at column h = let e = and-left (column.relation == r) true h in grind (arith, nat_tests)
 
-  meant-type : (at : ℕ) (m : Result ColumnRef BindKind) → All (IsColumn scope) (option_to_list (found m)) → meaning_faults at m ≡ [] → are_of r (option_to_list (found m)) ≡ true
-      → (t : ColumnType) × (type_meant scope m ≡ Some t) × (operand_type kinds (operand.Column (place_meant (found m))) ≡ Some t)
-  meant-type at (Ok column) there clear of =
+  resolved-kind : (at : ℕ) (m : Result ColumnRef BindKind) → All (IsColumn scope) (option_to_list (found m)) → resolved_faults at m ≡ [] → are_of r (option_to_list (found m)) ≡ true
+      → (t : ColumnType) × (resolved_type scope m ≡ Some t) × (operand_type kinds (operand.Column (resolved_place (found m))) ≡ Some t)
+  resolved-kind at (Ok column) there clear of =
       let known = type_at-known scope column (there 0 column (omega arith)) in
       (known.0, known.1, ap (λ n. slice_get (scope_kinds scope n) column.column) (sym (is-at column of)) ∙ sym (type_at-kinds scope column) ∙ known.1)
-  meant-type at (Err kind) there clear of = cc
+  resolved-kind at (Err kind) there clear of = cc
 
   literal-type : (v : Value) → operand_type kinds (operand.Literal v) ≡ Some (type_of_value v)
   literal-type (value.Int z) = refl
@@ -116,12 +119,12 @@ module _ (scope : List Relation) (r : ℕ) where
   operand-typed : (o : Expr) → operand_faults scope o ≡ [] → are_of r (option_to_list (column_of scope o)) ≡ true
       → (t : ColumnType) × (type_of scope o ≡ Some t) × (operand_type kinds (operand_of scope o) ≡ Some t)
   unfolding operand_faults reference_faults column_of type_of operand_of
-  operand-typed (expr.Column name) clear of = meant-type name.at (meaning scope name) (column_of-column scope (expr.Column name)) clear of
+  operand-typed (expr.Column name) clear of = resolved-kind name.at (resolve scope name) (column_of-column scope (expr.Column name)) clear of
   operand-typed (expr.Literal at v) clear of = (type_of_value v, refl, literal-type v)
 
   types-clear : (at : ℕ) (types : List (Option ColumnType)) → type_faults at types ≡ [] → differ (all_of types) ≡ false
   unfolding type_faults
-  types-clear at types h = not_fault _ _ _ h
+  types-clear at types h = no_fault _ _ _ h
 
   of-front : (a b : List ColumnRef) → are_of r (a ++ b) ≡ true → are_of r a ≡ true
   of-front a b h = and-left _ _ (sym (list_all-append (λ (k : ColumnRef). k.relation == r) a b) ∙ h)
@@ -129,8 +132,8 @@ module _ (scope : List Relation) (r : ℕ) where
   of-back : (a b : List ColumnRef) → are_of r (a ++ b) ≡ true → are_of r b ≡ true
   of-back a b h = and-right _ _ (sym (list_all-append (λ (k : ColumnRef). k.relation == r) a b) ∙ h)
 
-  compare-typed : (at : ℕ) (o : WrittenOp) (left right : Expr) → compare_faults scope at left right ≡ [] → are_of r (columns_of_operands scope (left ∷ right ∷ [])) ≡ true
-      → is_typed kinds (pred.Compare (op_of o) (operand_of scope left) (operand_of scope right)) ≡ true
+  compare-typed : (at : ℕ) (o : Comparison) (left right : Expr) → compare_faults scope at left right ≡ [] → are_of r (columns_of_operands scope (left ∷ right ∷ [])) ≡ true
+      → is_typed kinds (pred.Compare o (operand_of scope left) (operand_of scope right)) ≡ true
   unfolding compare_faults
   compare-typed at o left right clear of =
       let fl = operand_faults scope left in
@@ -142,7 +145,7 @@ module _ (scope : List Relation) (r : ℕ) where
       let l = operand-typed left (front-empty fl (fr ++ []) inside) (of-front cl (cr ++ []) of) in
       let r = operand-typed right (front-empty fr [] (back-empty fl (fr ++ []) inside)) (of-front cr [] (of-back cl (cr ++ []) of)) in
       let one = two-same l.0 r.0 (sym (ap (λ (p : Option ColumnType). differ (all_of (p ∷ type_of scope right ∷ []))) l.1 ∙ ap (λ (p : Option ColumnType). differ (all_of (Some l.0 ∷ p ∷ []))) r.1) ∙ types-clear at types (back-empty (fl ++ (fr ++ [])) (type_faults at types) clear)) in
-      is_typed-Compare kinds (op_of o) (operand_of scope left) (operand_of scope right) ∙ ap (λ p. are_one_type p (operand_type kinds (operand_of scope right))) l.2
+      is_typed-Compare kinds o (operand_of scope left) (operand_of scope right) ∙ ap (λ p. are_one_type p (operand_type kinds (operand_of scope right))) l.2
       ∙ ap (λ p. are_one_type (Some l.0) p) r.2 ∙ one
 
   between-typed : (at : ℕ) (negated : Bool) (o low high : Expr) → between_faults scope at o low high ≡ [] → are_of r (columns_of_operands scope (o ∷ low ∷ high ∷ [])) ≡ true
@@ -173,13 +176,13 @@ module _ (scope : List Relation) (r : ℕ) where
       let least = is_typed-Compare kinds op.Ge oo ol ∙ ap (λ p. are_one_type p (operand_type kinds ol)) x.2 ∙ ap (λ p. are_one_type (Some x.0) p) y.2 ∙ same.0 in
       let most = is_typed-Compare kinds op.Le oo oh ∙ ap (λ p. are_one_type p (operand_type kinds oh)) x.2 ∙ ap (λ p. are_one_type (Some x.0) p) z.2 ∙ same.1 in
       negated-typed kinds negated (is_between oo ol oh)
-      (is_typed-And kinds (pred.Compare op.Ge oo ol ∷ pred.Compare op.Le oo oh ∷ []) ∙ and-both _ _ least (and-both _ _ most refl))
+      (is_typed-And kinds (pred.Compare op.Ge oo ol ∷ pred.Compare op.Le oo oh ∷ []) ∙ and_from _ _ least (and_from _ _ most refl))
 
   values-typed : (o : Operand) (t : ColumnType) → operand_type kinds o ≡ Some t → (values : List Value) → list_all (λ v. is_same_type t (type_of_value v)) values ≡ true
       → list_all (is_typed kinds) (map (λ v. pred.Compare op.Eq o (operand.Literal v)) values) ≡ true
   values-typed o t e [] h = refl
   values-typed o t e (v ∷ values) h =
-      and-both _ _
+      and_from _ _
       (is_typed-Compare kinds op.Eq o (operand.Literal v) ∙ ap (λ p. are_one_type p (operand_type kinds (operand.Literal v))) e ∙ same-one t v (and-left _ _ h))
       (values-typed o t e values (and-right _ _ h))
 
@@ -214,7 +217,7 @@ module _ (scope : List Relation) (r : ℕ) where
   members-typed [] clear of = refl
   members-typed (e ∷ members) clear of =
       let xs = map (λ (e : (x : Cond) × IsTypedIfClear x). e.0) members in
-      and-both _ _
+      and_from _ _
       (e.1 (front-empty (cond_faults scope e.0) (flat_map (cond_faults scope) xs) clear) (of-front (columns_in scope e.0) (flat_map (columns_in scope) xs) of))
       (members-typed members (back-empty (cond_faults scope e.0) (flat_map (cond_faults scope) xs) clear) (of-back (columns_in scope e.0) (flat_map (columns_in scope) xs) of))
 
@@ -263,7 +266,7 @@ module _ (scope : List Relation) (r : ℕ) where
 
   joined-once : (x : Cond) → join_faults scope x [] ≡ [] → (of_two_relations (columns_in scope x) && not (is_equality x)) ≡ false
   unfolding join_faults
-  joined-once x h = not_fault _ _ _ h
+  joined-once x h = no_fault _ _ _ h
 
   one-relation : (two equality : Bool) → (two && not equality) ≡ false → not equality ≡ true → two ≡ false
   one-relation true true h k = cc
@@ -287,7 +290,7 @@ module _ (scope : List Relation) (r : ℕ) where
 
   kept-typed : (x : Cond) (rest : List Cond) (b : Bool) → (b ≡ true → is_typed kinds (pred_of scope x) ≡ true) → list_all (is_typed kinds) (map (pred_of scope) rest) ≡ true
       → list_all (is_typed kinds) (map (pred_of scope) (cond b (x ∷ rest) rest)) ≡ true
-  kept-typed x rest true h k = and-both _ _ (h refl) k
+  kept-typed x rest true h k = and_from _ _ (h refl) k
   kept-typed x rest false h k = k
 
   conjuncts-typed : (conjuncts : List Cond) → flat_map (conjunct_faults scope) conjuncts ≡ [] → list_all (is_typed kinds) (map (pred_of scope) (filter (is_condition_of scope r) conjuncts)) ≡ true

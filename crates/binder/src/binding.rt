@@ -2,10 +2,10 @@
 ghost use Rattle.std.specs.Prelude.{◌≡◌, ◌≤◌, IfOk, Err, None, Some, ℕ, length};
 ghost use Rattle.binder.specs.Binding.{query_of};
 ghost use Rattle.script_rules.specs.Faults.{refusal_of};
-ghost use Rattle.script_rules.specs.Scope.{IsWithinLimits};
 ghost use Rattle.script_rules.specs.declared.kinds.BindKind.{BindKind as Kind};
 
-use crate::refusal::BindError;
+use crate::conjuncts::conjuncts;
+use crate::errors::BindError;
 use crate::shown::output;
 use crate::translate::conditions;
 use crate::used::{aliases, table_numbers, tables_of};
@@ -13,17 +13,18 @@ use crate::widths::variables;
 use crate::written::equalities;
 use bound_query::{Bound, QueryParts};
 use rpt_base::Memory;
-use script_rules::first_fault;
+use script_rules::{Scope, first_fault};
 use sql_text::Script;
 use std::alloc::Global;
 
-/// Binds a script: Ok exactly where no refusal holds of it, and then with what its names mean; or else the first of its
-/// refusals. It selects from one source at least, as each script that is read does.
+/// Binds a script: Ok exactly where no refusal holds of it, and then with what its names resolve to; or else the first of
+/// its refusals. It selects from one source at least, as each script that is read does.
 pub fn bind(alloc: Global, script: &Script) -> Result<Bound, BindError>
     requires sources { 1 ≤ length script.now.select.sources }
     ensures bound { IfOk result (λ b. b.query ≡ query_of script.now) }
     ensures none { IfOk result (λ b. refusal_of script.now ≡ None) }
-    ensures refused { (kind : Kind) (at : ℕ) → result ≡ Err (BindError.Refused kind at) → refusal_of script.now ≡ Some (record { at = at; kind = kind }) }
+    ensures refused { (kind : Kind) (at : ℕ) → result ≡ Err (BindError.Refused kind at)
+        → refusal_of script.now ≡ Some (record { at = at; kind = kind }) }
 {
     if let Some(fault) = first_fault(script) {
         return Err(BindError::Refused {
@@ -41,15 +42,17 @@ pub fn bind(alloc: Global, script: &Script) -> Result<Bound, BindError>
 fn bound(alloc: Global, script: &Script) -> Result<Bound, Memory>
     requires sources { 1 ≤ length script.now.select.sources }
     requires none { refusal_of script.now ≡ None }
-    requires limits { IsWithinLimits script.now }
     ensures { IfOk result (λ b. b.query ≡ query_of script.now) }
 {
+    let scope = Scope::of(script);
     let aliases = aliases(alloc, script)?;
     let tables = tables_of(alloc, script)?;
     let table_of = table_numbers(alloc, script, tables.as_slice())?;
-    let conditions = conditions(alloc, script)?;
-    let equalities = equalities(alloc, script)?;
-    let output = output(alloc, script)?;
+    let found = conjuncts(alloc, script)?;
+    let conjuncts = found.as_slice();
+    let conditions = conditions(alloc, &scope, conjuncts)?;
+    let equalities = equalities(alloc, &scope, conjuncts)?;
+    let output = output(alloc, &scope, &script.select.items)?;
     let variables = variables(
         alloc,
         tables.as_slice(),

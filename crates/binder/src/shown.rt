@@ -1,29 +1,28 @@
 // The columns of the output.
-ghost use Rattle.std.specs.Prelude.{◌≡◌, ◌++◌, ◌∷◌, [], ℕ, IfOk, OnOk, map};
+ghost use Rattle.std.specs.Prelude.{◌≡◌, ◌<◌, ◌++◌, ◌∷◌, [], IfOk, OnOk, length};
 ghost use Rattle.std.specs.List.{enumerate_from, flat_map};
-ghost use Rattle.std.specs.Option.{option_map_or};
-ghost use Rattle.sql_grammar.specs.declared.tree.ColumnItem.{ColumnItem};
-ghost use Rattle.column_classes.specs.declared.columns.ColumnRef.{ColumnRef};
-ghost use Rattle.bound_query.specs.declared.output.OutColumn.{OutColumn};
-ghost use Rattle.script_rules.specs.Scope.{IsWithinLimits, columns_of, relation_of, scope_of};
-ghost use Rattle.binder.specs.Binding.{item_output, output_of, relation_output};
+ghost use Rattle.script_rules.specs.Scope.{relation_at};
+ghost use Rattle.binder.specs.Binding.{item_output, output_of, relation_output, title_of};
 
 use bound_query::OutColumn;
 use column_classes::ColumnRef;
 use rpt_base::{Listed, Memory, Name};
-use script_rules::{columns_of, meaning};
-use sql_text::{ColumnItem, Item, Items, Script, Source};
+use script_rules::Scope;
+use sql_text::{Item, Items};
 use std::alloc::Global;
 
 /// The output columns.
-pub(crate) fn output(alloc: Global, script: &Script) -> Result<Listed<OutColumn>, Memory>
-    requires limits { IsWithinLimits script.now }
-    ensures { IfOk result (λ columns. columns ≡ output_of (scope_of script.now) script.now.select.items) }
+pub(crate) fn output(
+    alloc: Global,
+    scope: &Scope,
+    items: &Items,
+) -> Result<Listed<OutColumn>, Memory>
+    ensures { IfOk result (λ columns. columns ≡ output_of scope.now items.now) }
 {
     let mut shown = Vec::new(alloc);
-    match &script.select.items {
-        Items::Star => add_all(alloc, script, &mut shown)?,
-        Items::List(items) => add_items(alloc, script, items.as_slice(), &mut shown)?,
+    match items {
+        Items::Star => add_all(alloc, scope, &mut shown)?,
+        Items::List(items) => add_items(alloc, scope, items.as_slice(), &mut shown)?,
     }
     Ok(Listed::from_vec(shown))
 }
@@ -31,15 +30,14 @@ pub(crate) fn output(alloc: Global, script: &Script) -> Result<Listed<OutColumn>
 // Puts the columns of items behind those that are there.
 fn add_items(
     alloc: Global,
-    script: &Script,
+    scope: &Scope,
     items: &[Item],
     shown: &mut Vec<OutColumn>,
 ) -> Result<(), Memory>
-    requires limits { IsWithinLimits script.now }
-    ensures { OnOk result (shown.new.items ≡ shown.old.items ++ flat_map (item_output (scope_of script.now)) items.now) }
+    ensures { OnOk result (shown.new.items ≡ shown.old.items ++ flat_map (item_output scope.now) items.now) }
 {
     for item in items {
-        add_item(alloc, script, item, shown)?;
+        add_item(alloc, scope, item, shown)?;
     }
     Ok(())
 }
@@ -47,14 +45,13 @@ fn add_items(
 #[tactic(auto, unfolding(crate::specs::Binding::item_output))]
 fn add_item(
     alloc: Global,
-    script: &Script,
+    scope: &Scope,
     item: &Item,
     shown: &mut Vec<OutColumn>,
 ) -> Result<(), Memory>
-    requires limits { IsWithinLimits script.now }
-    ensures { OnOk result (shown.new.items ≡ shown.old.items ++ item_output (scope_of script.now) item.now) }
+    ensures { OnOk result (shown.new.items ≡ shown.old.items ++ item_output scope.now item.now) }
 {
-    match meaning(script, &item.column) {
+    match scope.resolve(&item.column) {
         Ok(column) => add(alloc, column, title_of(item), shown),
         Err(_) => Ok(()),
     }
@@ -62,7 +59,7 @@ fn add_item(
 
 // The title of an item: the one that is given to it, or else its column's name.
 fn title_of(item: &Item) -> &Name
-    ensures { result.now ≡ option_map_or (λ title. title) item.now.title item.now.column.column }
+    ensures { result.now ≡ title_of item.now }
 {
     match &item.title {
         Some(title) => title,
@@ -71,12 +68,11 @@ fn title_of(item: &Item) -> &Name
 }
 
 // Puts all columns of all relations behind those that are there.
-fn add_all(alloc: Global, script: &Script, shown: &mut Vec<OutColumn>) -> Result<(), Memory>
-    requires limits { IsWithinLimits script.now }
-    ensures { OnOk result (shown.new.items ≡ shown.old.items ++ flat_map relation_output (enumerate_from 0 (scope_of script.now))) }
+fn add_all(alloc: Global, scope: &Scope, shown: &mut Vec<OutColumn>) -> Result<(), Memory>
+    ensures { OnOk result (shown.new.items ≡ shown.old.items ++ flat_map relation_output (enumerate_from 0 scope.now)) }
 {
-    for (number, source) in script.select.sources.as_slice().iter().enumerate() {
-        add_relation(alloc, script, number as u32, source, shown)?;
+    for relation in 0..scope.relations() {
+        add_relation(alloc, scope, relation, shown)?;
     }
     Ok(())
 }
@@ -84,15 +80,14 @@ fn add_all(alloc: Global, script: &Script, shown: &mut Vec<OutColumn>) -> Result
 // The same of the relation of this number.
 fn add_relation(
     alloc: Global,
-    script: &Script,
+    scope: &Scope,
     relation: u32,
-    source: &Source,
     shown: &mut Vec<OutColumn>,
 ) -> Result<(), Memory>
-    requires limits { IsWithinLimits script.now }
-    ensures { OnOk result (shown.new.items ≡ shown.old.items ++ map (λ (c : ℕ × ColumnItem). record { source = record { relation = relation; column = c.0 }; title = c.1.name }) (enumerate_from 0 (columns_of script.now.tables source.now))) }
+    requires { relation < length scope.now }
+    ensures { OnOk result (shown.new.items ≡ shown.old.items ++ relation_output (relation, relation_at scope.now relation)) }
 {
-    let columns = columns_of(script.tables.as_slice(), source);
+    let columns = scope.columns(relation);
     for (place, column) in columns.iter().enumerate() {
         let source = ColumnRef {
             relation,
@@ -113,8 +108,6 @@ fn add(
     ensures { OnOk result (shown.new.items ≡ shown.old.items ++ record { source = source; title = title.now } ∷ []) }
 {
     let title = title.copy(alloc)?;
-    match shown.push(OutColumn { source, title }) {
-        Ok(()) => Ok(()),
-        Err(_) => Err(Memory),
-    }
+    shown.push(OutColumn { source, title })?;
+    Ok(())
 }

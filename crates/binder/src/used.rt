@@ -1,6 +1,7 @@
 // The tables that the sources use, and the names that they go by.
 ghost use Rattle.std.specs.Prelude.{◌≡◌, ◌<◌, ◌≤◌, IfOk, IfSome, OnOk, length, map, position};
 ghost use Rattle.std.specs.Str.{bytes_eq};
+ghost use Rattle.rpt_base.specs.declared.limits.TheConstants.{MAX_RELATIONS};
 ghost use Rattle.script_rules.specs.Scope.{name_of};
 ghost use Rattle.binder.specs.Binding.{decl_of, declaration, is_declared, table_number, tables_of, with_table};
 
@@ -33,11 +34,8 @@ fn add_table(
     if is_declared(used.as_slice(), &source.table) {
         return Ok(());
     }
-    let decl = decl_of(alloc, created, source)?;
-    match used.push(decl) {
-        Ok(()) => Ok(()),
-        Err(_) => Err(Memory),
-    }
+    used.push(decl_of(alloc, created, source)?)?;
+    Ok(())
 }
 
 // Whether one of the tables has this name.
@@ -62,10 +60,7 @@ fn declarations(alloc: Global, columns: &[ColumnItem]) -> Result<Listed<ColumnDe
 {
     let mut declared = Vec::new(alloc);
     for column in columns {
-        let next = declaration(alloc, column)?;
-        if declared.push(next).is_err() {
-            return Err(Memory);
-        }
+        declared.push(declaration(alloc, column)?)?;
     }
     Ok(Listed::from_vec(declared))
 }
@@ -85,21 +80,19 @@ pub(crate) fn table_numbers(
     script: &Script,
     tables: &[Decl],
 ) -> Result<Vec<u32>, Memory>
-    requires few { length tables.now ≤ 16 }
+    requires few { length tables.now ≤ MAX_RELATIONS }
     ensures { IfOk result (λ numbers. numbers.items ≡ map (table_number tables.now) script.now.select.sources) }
 {
     let mut numbers = Vec::new(alloc);
     for source in script.select.sources.as_slice() {
-        if numbers.push(table_number(tables, source)).is_err() {
-            return Err(Memory);
-        }
+        numbers.push(table_number(tables, source))?;
     }
     Ok(numbers)
 }
 
 // The number of a source's table, or else the number of tables.
 fn table_number(tables: &[Decl], source: &Source) -> u32
-    requires few { length tables.now ≤ 16 }
+    requires few { length tables.now ≤ MAX_RELATIONS }
     ensures { result ≡ table_number tables.now source.now }
 {
     match index_of(tables, &source.table) {
@@ -122,10 +115,7 @@ pub(crate) fn aliases(alloc: Global, script: &Script) -> Result<Listed<Name>, Me
 {
     let mut names = Vec::new(alloc);
     for source in script.select.sources.as_slice() {
-        let name = name_of(source).copy(alloc)?;
-        if names.push(name).is_err() {
-            return Err(Memory);
-        }
+        names.push(name_of(source).copy(alloc)?)?;
     }
     Ok(Listed::from_vec(names))
 }

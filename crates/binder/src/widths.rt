@@ -1,7 +1,5 @@
 // How many columns the relations have, and the variables that their equalities make.
 ghost use Rattle.std.specs.Prelude.{◌≡◌, ◌≤◌, IfOk, length};
-ghost use Rattle.std.specs.List.{All};
-ghost use Rattle.rpt_base.specs.declared.limits.TheConstants.{MAX_COLUMNS};
 ghost use Rattle.column_classes.specs.Variables.{AreEqualities, AreQueryVariables, AreWidths};
 ghost use Rattle.bound_query.specs.Query.{AreNarrow, columns_in, widths_in};
 
@@ -33,9 +31,7 @@ fn widths(alloc: Global, tables: &[Decl], table_of: &[u32]) -> Result<Vec<u32>, 
 {
     let mut widths = Vec::new(alloc);
     'relations: for relation in 0..table_of.len() {
-        if widths.push(width(tables, table_of[relation])).is_err() {
-            return Err(Memory);
-        }
+        widths.push(width(tables, table_of[relation]))?;
     }
     Ok(widths)
 }

@@ -4,7 +4,7 @@ use Rattle.std.specs.Prelude.{slice_index}
 use Rattle.std.proofs.lemmas.List.{get_or-map, length-map}
 use Rattle.column_table.specs.declared.declared.ColumnDecl.{ColumnDecl}
 use Rattle.column_classes.specs.declared.columns.ColumnRef.{ColumnRef}
-use Rattle.bound_query.specs.Query.{IsBound, Joins, Names, Query, columns_in, columns_of, kinds_of, widths_of}
+use Rattle.bound_query.specs.Query.{IsBound, IsEqualityOf, IsColumnOf, Query, columns_in, columns_of, kinds_of, widths_of}
 use Rattle.column_classes.specs.Variables.{AreEqualities, AreWidths, IsColumn}
 
 module _ (q : Query) where
@@ -26,11 +26,11 @@ module _ (q : Query) where
         omega (arith, width-at k d within, narrow);
   }
 
-  column-is : (c : ColumnRef) → Names q c → IsColumn (widths_of q) c
+  column-is : (c : ColumnRef) → IsColumnOf q c → IsColumn (widths_of q) c
   column-is c named =
       let e = width-at c.relation 0 named.relation in
       let k : length (kinds_of q c.relation) ≡ length (columns_of q c.relation) = length-map (columns_of q c.relation) (λ (d : ColumnDecl). d.kind) in
       (omega (arith, widths-length, named.relation), omega (arith, e, k, named.column))
 
   pub equalities-are : IsBound q → AreEqualities (widths_of q) q.equalities
-  equalities-are bound = λ k d lt. let joins : Joins q (get_or q.equalities k d) = bound.joined k d lt in (column-is _ joins.left, column-is _ joins.right)
+  equalities-are bound = λ k d lt. let joins : IsEqualityOf q (get_or q.equalities k d) = bound.joined k d lt in (column-is _ joins.left, column-is _ joins.right)

@@ -1,5 +1,6 @@
 -- A bound query.
-use Rattle.std.specs.Prelude.{◌≡◌, ℕ, ◌<◌, ◌≤◌, List, [], length, map, IsTrue, Some, slice_get, slice_index, slice_index_or}
+use Rattle.std.specs.Prelude.{◌≡◌, ℕ, ◌<◌, ◌≤◌, List, [], length, map, IsTrue, Some}
+use Rattle.std.specs.Prelude.{slice_get, slice_index, slice_index_or}
 use Rattle.std.specs.List.{All}
 use Rattle.rpt_base.specs.declared.limits.TheConstants.{MAX_COLUMNS, MAX_RELATIONS}
 use Rattle.rpt_base.specs.declared.values.ColumnType.{ColumnType}
@@ -13,8 +14,8 @@ use Rattle.column_classes.specs.declared.columns.ColumnRef.{ColumnRef}
 use Rattle.column_classes.specs.declared.columns.Equality.{Equality}
 use Rattle.bound_query.specs.declared.output.OutColumn.{OutColumn}
 
--- The relations' names, the different tables by first use and the number of each relation's, the condition of each relation, the
--- written equalities, and the columns of the output.
+-- The relations' names, the different tables by first use and the number of each relation's, the condition of each
+-- relation, the written equalities, and the columns of the output.
 pub record Query : Type 0 where
   pub aliases : List (List ℕ)
   pub tables : List Decl
@@ -44,14 +45,14 @@ abbrev pub kinds_of : Query → ℕ → List ColumnType
 kinds_of q r = types_of (columns_of q r)
 
 -- the column's relation is one of the query's, and the column is one of that relation's
-pub record Names (q : Query) (c : ColumnRef) : Type 0 where
+pub record IsColumnOf (q : Query) (c : ColumnRef) : Type 0 where
   pub relation : c.relation < length q.table_of
   pub column : c.column < length (kinds_of q c.relation)
 
 -- both columns of an equality are columns of the query
-pub record Joins (q : Query) (e : Equality) : Type 0 where
-  pub left : Names q e.left
-  pub right : Names q e.right
+pub record IsEqualityOf (q : Query) (e : Equality) : Type 0 where
+  pub left : IsColumnOf q e.left
+  pub right : IsColumnOf q e.right
 
 -- a query, and what is known of its variables
 pub record BoundQuery : Type 0 where
@@ -72,8 +73,8 @@ pub record IsBound (q : Query) : Type 0 where
   pub named : length q.aliases ≡ length q.table_of
   pub within : (r : ℕ) → r < length q.table_of → slice_index q.table_of r < length q.tables
   pub typed : (r : ℕ) (p : Pred) → slice_get q.conditions r ≡ Some p → IsTrue (is_typed (kinds_of q r) p)
-  pub joined : All (Joins q) q.equalities
-  pub shown : All (λ (c : OutColumn). Names q c.source) q.output
+  pub joined : All (IsEqualityOf q) q.equalities
+  pub shown : All (λ (c : OutColumn). IsColumnOf q c.source) q.output
 
 -- the query is in order, and its variables are those of its written equalities
 pub record IsBoundQuery (b : BoundQuery) : Type 0 where

@@ -4,7 +4,7 @@ ghost use Rattle.std.specs.List.{All};
 ghost use Rattle.std.specs.List.Sorted.{IsStrictlyIncreasing};
 ghost use Rattle.predicate.specs.Truth.{is_typed};
 ghost use Rattle.rpt_base.specs.declared.limits.TheConstants.{MAX_COLUMNS, MAX_RELATIONS};
-ghost use Rattle.bound_query.specs.Query.{IsBoundQuery, Joins, Names, kinds_of, widths_of};
+ghost use Rattle.bound_query.specs.Query.{IsBoundQuery, IsEqualityOf, IsColumnOf, kinds_of, widths_of};
 ghost use Rattle.column_classes.specs.Variables.{AreQueryVariables};
 
 use crate::output::OutColumn;
@@ -12,23 +12,19 @@ use crate::parts::QueryParts;
 use column_classes::{ColumnRef, Equality, Variables};
 use column_table::Decl;
 use predicate::Pred;
-use rpt_base::{Listed, Name};
+use rpt_base::Name;
 use std::marker::Model;
 
-/// A bound query. Relations are numbered from 0 in the order of FROM, and tables in the order of their first use.
+/// A bound query. Relations are numbered from 0 in the order of FROM, and tables in the order of their first
+/// use.
 #[derive(Debug, Drop)]
 pub struct Bound {
-    aliases: Listed<Name>,
-    tables: Listed<Decl>,
-    table_of: Vec<u32>,
-    conditions: Listed<Pred>,
-    equalities: Vec<Equality>,
-    output: Listed<OutColumn>,
+    parts: QueryParts,
     variables: Variables,
 }
 
 impl Model for Bound {
-    ghost use Rattle.bound_query.specs.Query.{BoundQuery};
+    ghost use Rattle.bound_query.specs.Query.{BoundQuery, IsBoundQuery};
 
     ghost Value = { BoundQuery };
 
@@ -37,11 +33,9 @@ impl Model for Bound {
 
     ghost coded = { Prim.hlevel (codes, condition.the_row.coded) };
 
-    ghost view = { λ b. record { query = record { aliases = b.aliases; tables = b.tables; table_of = b.table_of.items; conditions = b.conditions; equalities = b.equalities.items; output = b.output }; known = b.variables } };
+    ghost view = { λ b. record { query = b.parts; known = b.variables } };
 
-    ghost use Rattle.bound_query.specs.Query.{IsBoundQuery};
-
-    ghost invariant = { λ b. IsBoundQuery (record { query = record { aliases = b.aliases; tables = b.tables; table_of = b.table_of.items; conditions = b.conditions; equalities = b.equalities.items; output = b.output }; known = b.variables }) };
+    ghost invariant = { λ b. IsBoundQuery (record { query = b.parts; known = b.variables }) };
 }
 
 impl Bound {
@@ -50,26 +44,11 @@ impl Bound {
         requires { IsBoundQuery (record { query = parts; known = variables }) }
         ensures { result ≡ record { query = parts; known = variables } }
     {
-        let QueryParts {
-            aliases,
-            tables,
-            table_of,
-            conditions,
-            equalities,
-            output,
-        } = parts;
-        Bound {
-            aliases,
-            tables,
-            table_of,
-            conditions,
-            equalities,
-            output,
-            variables,
-        }
+        Bound { parts, variables }
     }
 
-    /// The number of relations. The query is in order, and its variables are those of its written equalities.
+    /// The number of relations. The query is in order, and its variables are those of its written
+    /// equalities.
     pub fn relations(&self) -> u32
         ensures count { result ≡ length self.now.query.table_of }
         ensures some { 1 ≤ length self.now.query.table_of }
@@ -78,7 +57,7 @@ impl Bound {
         ensures sets { length self.now.known.sets ≡ length self.now.query.table_of }
         ensures bound { IsBoundQuery self.now }
     {
-        self.table_of.as_slice().len() as u32
+        self.parts.table_of.as_slice().len() as u32
     }
 
     /// The name that a relation goes by.
@@ -86,7 +65,7 @@ impl Bound {
         requires { relation < length self.now.query.table_of }
         ensures { slice_get self.now.query.aliases relation ≡ Some result.now }
     {
-        &self.aliases.as_slice()[relation as usize]
+        &self.parts.aliases.as_slice()[relation as usize]
     }
 
     /// The number of different tables.
@@ -94,7 +73,7 @@ impl Bound {
         ensures count { result ≡ length self.now.query.tables }
         ensures limit { length self.now.query.tables ≤ MAX_RELATIONS }
     {
-        self.tables.as_slice().len() as u32
+        self.parts.tables.as_slice().len() as u32
     }
 
     /// The number of a relation's table.
@@ -103,7 +82,7 @@ impl Bound {
         ensures table { slice_get self.now.query.table_of relation ≡ Some result }
         ensures within { result < length self.now.query.tables }
     {
-        self.table_of.as_slice()[relation as usize]
+        self.parts.table_of.as_slice()[relation as usize]
     }
 
     /// The declaration of a table.
@@ -112,7 +91,7 @@ impl Bound {
         ensures decl { slice_get self.now.query.tables table ≡ Some result.now }
         ensures few { length result.now.columns ≤ MAX_COLUMNS }
     {
-        &self.tables.as_slice()[table as usize]
+        &self.parts.tables.as_slice()[table as usize]
     }
 
     /// The condition of a relation, over the columns of its table.
@@ -121,23 +100,23 @@ impl Bound {
         ensures condition { slice_get self.now.query.conditions relation ≡ Some result.now }
         ensures typed { IsTrue (is_typed (kinds_of self.now.query relation) result.now) }
     {
-        &self.conditions.as_slice()[relation as usize]
+        &self.parts.conditions.as_slice()[relation as usize]
     }
 
     /// The written equalities in order.
     pub fn equalities(&self) -> &[Equality]
         ensures equalities { result.now ≡ self.now.query.equalities }
-        ensures joined { All (Joins self.now.query) self.now.query.equalities }
+        ensures joined { All (IsEqualityOf self.now.query) self.now.query.equalities }
     {
-        self.equalities.as_slice()
+        self.parts.equalities.as_slice()
     }
 
     /// The columns of the output.
     pub fn output(&self) -> &[OutColumn]
         ensures output { result.now ≡ self.now.query.output }
-        ensures shown { All (λ c. Names self.now.query c.source) self.now.query.output }
+        ensures shown { All (λ c. IsColumnOf self.now.query c.source) self.now.query.output }
     {
-        self.output.as_slice()
+        self.parts.output.as_slice()
     }
 
     /// The number of variables.
@@ -155,7 +134,8 @@ impl Bound {
         self.variables.columns_of(variable)
     }
 
-    /// The pairs of linked columns of a relation, the lesser first, by the first and then by the second.
+    /// The pairs of linked columns of a relation, the lesser first, by the first and then by the second
+    /// column.
     pub fn local(&self, relation: u32) -> &[(u32, u32)]
         requires { relation < length self.now.query.table_of }
         ensures { slice_get self.now.known.local relation ≡ Some result.now }

@@ -33,5 +33,12 @@ impl Model for QueryParts {
 
     ghost coded = { Prim.hlevel (codes, condition.the_row.coded) };
 
-    ghost view = { λ q. record { aliases = q.aliases; tables = q.tables; table_of = q.table_of.items; conditions = q.conditions; equalities = q.equalities.items; output = q.output } };
+    ghost view = { λ q. record {
+      aliases = q.aliases;
+      tables = q.tables;
+      table_of = q.table_of.items;
+      conditions = q.conditions;
+      equalities = q.equalities.items;
+      output = q.output;
+    } };
 }

@@ -1,6 +1,6 @@
 // Tuples in the order of FROM.
 ghost use Rattle.std.specs.Prelude.{◌<◌, ℕ, Contains, IsTrue};
-ghost use Rattle.join_laws.specs.Order.{HasEachOnce};
+ghost use Rattle.rpt_base.specs.Orders.{IsOrder};
 
 use case_text::{CaseError, numbers_of, put};
 use morsel_pipeline::JoinRun;
@@ -30,7 +30,7 @@ pub fn put_ordered<R: Threads + Sync>(
 }
 
 fn has_each_once(width: u32, order: &[u32]) -> bool
-    ensures { IsTrue result → HasEachOnce width order.now }
+    ensures { IsTrue result → IsOrder width order.now }
 {
     order.len() == width as usize
         && order.iter().all(|relation| *relation < width)

@@ -4,7 +4,7 @@ use Rattle.std.proofs.lemmas.List.Elements.{All-push, All-weaker, Contains-appen
 use Rattle.std.proofs.lemmas.List.Quantifiers.{all_pairs_push}
 use Rattle.std.specs.Prelude.{Any, Contains, SomeIndex}
 use Rattle.column_classes.specs.Variables.{AreOfTwoRelations, AreVariables, BeginsBefore, ComesBefore, IsClass, IsColumn, Linked}
-use Rattle.column_classes.specs.Labels.{AreByLabel, AreInOrder, AreLabels, AreOfLabel, column_at, label_at}
+use Rattle.column_classes.specs.Labels.{AreByLabel, AreInOrder, AreLabels, AreOfLabel, IsVariableBelow, column_at, label_at}
 use Rattle.column_classes.specs.declared.columns.ColumnRef.{ColumnRef}
 use Rattle.column_classes.specs.declared.columns.Equality.{Equality}
 use Rattle.column_classes.specs.declared.classes.Labelled.{Labelled}
@@ -112,11 +112,7 @@ module _ (places : List Labelled) (order : AreInOrder places) where
   }
 
   module _ (i : ℕ) (variables : List (List ColumnRef)) (h : AreByLabel places i variables) (li : i < length places) where
-    -- the columns of a label below k, of two relations
-    abbrev pub IsVariableBelow : ℕ → List ColumnRef → Type 0
-    IsVariableBelow k v = SomeIndex places (λ j. (j < k) × (label_at places j ≡ j) × AreOfLabel places j (length places) v) × AreOfTwoRelations v
-
-    weaken : (v : List ColumnRef) → IsVariableBelow i v → IsVariableBelow (i + 1) v
+    weaken : (v : List ColumnRef) → IsVariableBelow places i v → IsVariableBelow places (i + 1) v
     weaken v ((j, lj, s), two) = ((j, lj, (omega (arith, s.0), s.1, s.2)), two)
 
     -- the columns of both places
@@ -127,7 +123,7 @@ module _ (places : List Labelled) (order : AreInOrder places) where
     by-label-pass : ((a b : ℕ) → a < length places → b < length places → label_at places a ≡ i → label_at places a ≡ label_at places b
         → (column_at places a).relation ≢ (column_at places b).relation → ⊥) → AreByLabel places (i + 1) variables
     by-label-pass none = record {
-      classes = All-weaker (IsVariableBelow i) (IsVariableBelow (i + 1)) weaken variables h.classes;
+      classes = All-weaker (IsVariableBelow places i) (IsVariableBelow places (i + 1)) weaken variables h.classes;
       rise = h.rise;
       all = all;
       few = omega (arith, h.few);
@@ -153,7 +149,7 @@ module _ (places : List Labelled) (order : AreInOrder places) where
     -- the columns of the next label are a variable
     pub by-label-push : (columns : List ColumnRef) → label_at places i ≡ i → AreOfLabel places i (length places) columns → AreOfTwoRelations columns → AreByLabel places (i + 1) (variables ++ columns ∷ [])
     by-label-push columns own of two = record {
-      classes = All-push (IsVariableBelow (i + 1)) variables columns (All-weaker (IsVariableBelow i) (IsVariableBelow (i + 1)) weaken variables h.classes) ((i, li, (omega arith, own, of)), two);
+      classes = All-push (IsVariableBelow places (i + 1)) variables columns (All-weaker (IsVariableBelow places i) (IsVariableBelow places (i + 1)) weaken variables h.classes) ((i, li, (omega arith, own, of)), two);
       rise = all_pairs_push BeginsBefore variables columns h.rise below;
       all = all;
       few = omega (arith, h.few, length-append variables (columns ∷ []));
@@ -162,7 +158,7 @@ module _ (places : List Labelled) (order : AreInOrder places) where
         below : (k : ℕ) (d : List ColumnRef) → k < length variables → BeginsBefore (get_or variables k d) columns
         below k d lt = by (h.classes k d lt)
           where
-            by : IsVariableBelow i (get_or variables k d) → BeginsBefore (get_or variables k d) columns
+            by : IsVariableBelow places i (get_or variables k d) → BeginsBefore (get_or variables k d) columns
             by ((j, lj, s), t) =
                 begins-before (get_or variables k d) columns (column_at places j) (column_at places i) (of-label-first j (get_or variables k d) lj s.1 s.2) (of-label-first i columns li own of)
                 (place-before places order.rise j i s.0 li)

@@ -4,37 +4,33 @@ use Rattle.std.proofs.lemmas.Bool.{cases_lt}
 use Rattle.std.proofs.lemmas.List.Elements.{Contains-append_left, Contains-get_or, Contains-push, Contains-push_cases}
 use Rattle.std.proofs.lemmas.List.Quantifiers.{all_pairs_push}
 use Rattle.std.specs.Prelude.{Contains, SomeIndex}
-use Rattle.column_classes.specs.Variables.{ArePairs, ComesBefore, IsColumn, IsLesserPair, Linked, column_of}
-use Rattle.column_classes.specs.Labels.{AreInOrder, AreLabels, ArePairsBefore, IsPairAt, column_at}
+use Rattle.column_classes.specs.Variables.{ArePairs, ComesBefore, IsLesserPair, IsLinkedPair, Linked, column_of}
+use Rattle.column_classes.specs.Labels.{AreInOrder, AreLabels, ArePairsBefore, IsPairAt, IsPairBefore, column_at}
 use Rattle.column_classes.specs.declared.columns.ColumnRef.{ColumnRef}
 use Rattle.column_classes.specs.declared.columns.Equality.{Equality}
 use Rattle.column_classes.specs.declared.classes.Labelled.{Labelled}
 use Rattle.column_classes.proofs.PlaceFacts.{before-same, place-before, place-below}
 
 module _ (places : List Labelled) (order : AreInOrder places) (r : ℕ) where
-  -- the pair p stands at places before (a, b)
-  abbrev pub IsPairBefore : ℕ → ℕ → ℕ × ℕ → Type 0
-  IsPairBefore a b p = SomeIndex places (λ i. SomeIndex places (λ j. IsPairAt places r i j p × IsLesserPair (i, j) (a, b)))
-
   -- the places before (a, b) and those before (c, d) give the same pairs
-  pairs-same : (a b c d : ℕ) (pairs : List (ℕ × ℕ)) → ((p : ℕ × ℕ) → IsPairBefore a b p → IsPairBefore c d p) → ((p : ℕ × ℕ) → IsPairBefore c d p → IsPairBefore a b p)
+  pairs-same : (a b c d : ℕ) (pairs : List (ℕ × ℕ)) → ((p : ℕ × ℕ) → IsPairBefore places r a b p → IsPairBefore places r c d p) → ((p : ℕ × ℕ) → IsPairBefore places r c d p → IsPairBefore places r a b p)
       → ArePairsBefore places r a b pairs → ArePairsBefore places r c d pairs
   pairs-same a b c d pairs forth back h = record { rise = h.rise; members = λ p. ((λ s. forth p ((h.members p).0 s)), (λ s. (h.members p).1 (back p s))) }
 
   -- later places, with more pairs
-  later : (a b c d : ℕ) → ((i j : ℕ) → IsLesserPair (i, j) (a, b) → IsLesserPair (i, j) (c, d)) → (p : ℕ × ℕ) → IsPairBefore a b p → IsPairBefore c d p
+  later : (a b c d : ℕ) → ((i j : ℕ) → IsLesserPair (i, j) (a, b) → IsLesserPair (i, j) (c, d)) → (p : ℕ × ℕ) → IsPairBefore places r a b p → IsPairBefore places r c d p
   later a b c d more p (i, li, (j, lj, (at, l))) = (i, li, (j, lj, (at, more i j l)))
 
   -- the same pairs, where what is between gives none
   earlier : (a b c d : ℕ) → ((i j : ℕ) (p : ℕ × ℕ) → i < length places → j < length places → IsPairAt places r i j p → IsLesserPair (i, j) (c, d) → IsLesserPair (i, j) (a, b))
-      → (p : ℕ × ℕ) → IsPairBefore c d p → IsPairBefore a b p
+      → (p : ℕ × ℕ) → IsPairBefore places r c d p → IsPairBefore places r a b p
   earlier a b c d fewer p (i, li, (j, lj, (at, l))) = (i, li, (j, lj, (at, fewer i j p li lj at l)))
 
   -- before all places
   pub pairs-none : ArePairsBefore places r 0 0 []
   pairs-none = record { rise = λ i j d h lt. absurd (omega arith); members = λ p. ((λ s. absurd (omega (arith, s.1))), back p) }
     where
-      back : (p : ℕ × ℕ) → IsPairBefore 0 0 p → Contains [] p
+      back : (p : ℕ × ℕ) → IsPairBefore places r 0 0 p → Contains [] p
       back p (i, li, (j, lj, (at, inl l))) = absurd (omega arith)
       back p (i, li, (j, lj, (at, inr l))) = absurd (omega (arith, l.1))
 
@@ -107,7 +103,7 @@ module _ (places : List Labelled) (order : AreInOrder places) (r : ℕ) where
     pub pairs-push : (q : ℕ × ℕ) → IsPairAt places r a b q → ArePairsBefore places r a (b + 1) (pairs ++ q ∷ [])
     pairs-push q at = record { rise = all_pairs_push IsLesserPair pairs q h.rise below; members = λ p. (forth p, back p) }
       where
-        lesser : (p : ℕ × ℕ) → IsPairBefore a b p → IsLesserPair p q
+        lesser : (p : ℕ × ℕ) → IsPairBefore places r a b p → IsLesserPair p q
         lesser p (i, li, (j, lj, (here, inl l))) = by (before-same (column_of r p.0) (column_of r q.0) _ _ (sym here.2) (sym at.2) (place-before places order.rise i a l la))
           where
             by : ComesBefore (column_of r p.0) (column_of r q.0) → IsLesserPair p q
@@ -126,14 +122,14 @@ module _ (places : List Labelled) (order : AreInOrder places) (r : ℕ) where
         below : (k : ℕ) (d : ℕ × ℕ) → k < length pairs → IsLesserPair (get_or pairs k d) q
         below k d lt = lesser (get_or pairs k d) ((h.members (get_or pairs k d)).0 (Contains-get_or pairs k d lt))
 
-        forth : (p : ℕ × ℕ) → Contains (pairs ++ q ∷ []) p → IsPairBefore a (b + 1) p
+        forth : (p : ℕ × ℕ) → Contains (pairs ++ q ∷ []) p → IsPairBefore places r a (b + 1) p
         forth p s = by (Contains-push_cases pairs q p s)
           where
-            by : Contains pairs p ⊎ (q ≡ p) → IsPairBefore a (b + 1) p
+            by : Contains pairs p ⊎ (q ≡ p) → IsPairBefore places r a (b + 1) p
             by (inl t) = later a b a (b + 1) wider p ((h.members p).0 t)
-            by (inr t) = let P : ℕ × ℕ → Type 0 = IsPairBefore a (b + 1) in subst P t (a, la, (b, lb, (at, inr (refl, omega arith))))
+            by (inr t) = let P : ℕ × ℕ → Type 0 = IsPairBefore places r a (b + 1) in subst P t (a, la, (b, lb, (at, inr (refl, omega arith))))
 
-        back : (p : ℕ × ℕ) → IsPairBefore a (b + 1) p → Contains (pairs ++ q ∷ []) p
+        back : (p : ℕ × ℕ) → IsPairBefore places r a (b + 1) p → Contains (pairs ++ q ∷ []) p
         back p (i, li, (j, lj, (here, inl l))) = Contains-append_left pairs (q ∷ []) p ((h.members p).1 (i, li, (j, lj, (here, inl l))))
         back p (i, li, (j, lj, (here, inr l))) = by (cases_lt j b)
           where
@@ -151,15 +147,11 @@ module _ (places : List Labelled) (order : AreInOrder places) (r : ℕ) where
                 pair-same x y f g = rw (f, g) refl
 
 module _ (widths : List ℕ) (equalities : List Equality) (places : List Labelled) (known : AreLabels widths equalities places) where
-  -- two columns of a relation that are linked, the lesser first
-  abbrev pub IsLinkedPair : ℕ → ℕ → ℕ → Type 0
-  IsLinkedPair r i j = (i < j) × IsColumn widths (column_of r i) × IsColumn widths (column_of r j) × Linked equalities (column_of r i) (column_of r j)
-
   -- the pairs with one label are the pairs that are linked
   pub pairs-are : (r a : ℕ) (pairs : List (ℕ × ℕ)) → length places ≤ a → ArePairsBefore places r a 0 pairs → ArePairs widths equalities r pairs
   pairs-are r a pairs long h = record { rise = h.rise; members = λ i j. ((λ s. forth i j ((h.members (i, j)).0 s)), (λ s. (h.members (i, j)).1 (back i j s))) }
     where
-      forth : (i j : ℕ) → IsPairBefore places known.order r a 0 (i, j) → IsLinkedPair r i j
+      forth : (i j : ℕ) → IsPairBefore places r a 0 (i, j) → IsLinkedPair widths equalities r i j
       forth i j (x, lx, (y, ly, (at, l))) = (
         by (before-same (column_of r i) (column_of r j) _ _ (sym at.2) (sym at.3) (place-before places known.order.rise x y at.0 ly)),
         (known.columns (column_of r i)).0 (x, lx, at.2),
@@ -171,10 +163,10 @@ module _ (widths : List ℕ) (equalities : List Equality) (places : List Labelle
           by (inl g) = absurd (omega arith)
           by (inr g) = g.1
 
-      back : (i j : ℕ) → IsLinkedPair r i j → IsPairBefore places known.order r a 0 (i, j)
+      back : (i j : ℕ) → IsLinkedPair widths equalities r i j → IsPairBefore places r a 0 (i, j)
       back i j (lt, ic, jc, link) = by ((known.columns (column_of r i)).1 ic) ((known.columns (column_of r j)).1 jc)
         where
-          by : SomeIndex places (λ x. column_at places x ≡ column_of r i) → SomeIndex places (λ y. column_at places y ≡ column_of r j) → IsPairBefore places known.order r a 0 (i, j)
+          by : SomeIndex places (λ x. column_at places x ≡ column_of r i) → SomeIndex places (λ y. column_at places y ≡ column_of r j) → IsPairBefore places r a 0 (i, j)
           by (x, lx, e) (y, ly, f) =
               let before : ComesBefore (column_at places x) (column_at places y) = before-same _ _ (column_of r i) (column_of r j) e f (inr (refl, lt)) in
               let here : Linked equalities (column_at places x) (column_at places y) = rw (e, f) link in

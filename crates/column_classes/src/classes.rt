@@ -1,5 +1,5 @@
 // The classes of columns, kept as a label for each column of the query.
-ghost use Rattle.std.specs.Prelude.{◌≡◌, ◌+◌, ◌<◌, ℕ, Any, IfOk, OnOk, length, map, nat_lt};
+ghost use Rattle.std.specs.Prelude.{◌≡◌, ◌+◌, ◌<◌, ℕ, Any, IfOk, OnOk, length, map};
 ghost use Rattle.column_classes.specs.Variables.{AreEqualities, AreWidths};
 ghost use Rattle.column_classes.specs.Labels.{AreLabels, AreOwnLabels, merged};
 
@@ -61,9 +61,7 @@ fn label_relation(places: &mut Vec<Labelled>, widths: &[u32], relation: usize) -
             },
             label: places.len(),
         };
-        if places.push(place).is_err() {
-            return Err(Memory);
-        }
+        places.push(place)?;
     }
     Ok(())
 }

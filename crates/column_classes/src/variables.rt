@@ -1,8 +1,10 @@
 // The variables of a query, the pairs of linked columns of each relation, and the variables of each relation.
-ghost use Rattle.std.specs.Prelude.{◌≡◌, ◌+◌, ◌<◌, ◌≤◌, ◌↔◌, [], Any, EachIndex, IfOk, IsTrue, OnOk, Some, length, map, slice_get};
-ghost use Rattle.std.specs.List.{slice_index_or};
-ghost use Rattle.column_classes.specs.Variables.{AreEqualities, AreOfTwoRelations, AreQueryVariables, AreVariablesOf, AreWidths};
-ghost use Rattle.column_classes.specs.Labels.{AreByLabel, AreInOrder, AreOfLabel, ArePairsBefore, column_at};
+ghost use Rattle.std.specs.Prelude.{◌≡◌, ◌+◌, ◌<◌, ◌≤◌, ◌↔◌};
+ghost use Rattle.std.specs.Prelude.{Any, IfOk, IsTrue, OnOk, Some, length, slice_get};
+ghost use Rattle.column_classes.specs.Variables.{AreEqualities, AreOfTwoRelations, AreVariablesOf};
+ghost use Rattle.column_classes.specs.Variables.{AreQueryVariables, AreWidths, HaveVariables, lists_in};
+ghost use Rattle.column_classes.specs.Labels.{AreByLabel, AreInOrder, AreOfLabel, ArePairsBefore};
+ghost use Rattle.column_classes.specs.Labels.{HavePairs, column_at};
 
 use crate::classes::{Labelled, label_columns};
 use crate::columns::{ColumnRef, Equality};
@@ -20,12 +22,12 @@ pub struct Variables {
 }
 
 impl Model for Variables {
-    ghost use Rattle.std.specs.Prelude.{◌≤◌, length, map};
-    ghost use Rattle.column_classes.specs.Variables.{QueryVariables};
+    ghost use Rattle.std.specs.Prelude.{◌≤◌, length};
+    ghost use Rattle.column_classes.specs.Variables.{QueryVariables, known_of};
 
     ghost Value = { QueryVariables };
 
-    ghost view = { λ v. record { variables = map (λ c. c.items) v.variables.items; local = map (λ p. p.items) v.local.items; sets = map (λ s. s.items) v.sets.items } };
+    ghost view = { λ v. known_of v.variables.items v.local.items v.sets.items };
 
     ghost invariant = { λ v. length v.variables.items ≤ 1024 };
 }
@@ -73,7 +75,7 @@ impl Variables {
 
     /// For each relation the numbers of the variables with a column in it, rising.
     pub fn sets(&self) -> &[Vec<u32>]
-        ensures { map (λ s. s.items) result.now ≡ self.now.sets }
+        ensures { lists_in result.now ≡ self.now.sets }
     {
         self.sets.as_slice()
     }
@@ -82,14 +84,14 @@ impl Variables {
 // The classes with columns in two or more relations, by their least columns.
 fn variables_of(alloc: Global, places: &[Labelled]) -> Result<Vec<Vec<ColumnRef>>, Memory>
     requires { AreInOrder places.now }
-    ensures { IfOk result (λ variables. AreByLabel places.now (length places.now) (map (λ c. c.items) variables.items)) }
+    ensures { IfOk result (λ variables. AreByLabel places.now (length places.now) (lists_in variables.items)) }
 {
     let mut variables = Vec::new(alloc);
     'places: for place in 0..places.len() {
         if places[place].label == place {
             let class = columns_with(alloc, places, place)?;
-            if has_two_relations(&class) && variables.push(class).is_err() {
-                return Err(Memory);
+            if has_two_relations(&class) {
+                variables.push(class)?;
             }
         }
     }
@@ -103,8 +105,8 @@ fn columns_with(alloc: Global, places: &[Labelled], label: usize) -> Result<Vec<
 {
     let mut columns = Vec::new(alloc);
     'places: for i in 0..places.len() {
-        if places[i].label == label && columns.push(places[i].column).is_err() {
-            return Err(Memory);
+        if places[i].label == label {
+            columns.push(places[i].column)?;
         }
     }
     Ok(columns)
@@ -131,14 +133,12 @@ fn local_pairs(
     requires relations { relations ≤ 16 }
     requires places { AreInOrder places.now }
     ensures length { IfOk result (λ local. length local.items ≡ relations) }
-    ensures pairs { IfOk result (λ local. EachIndex local.items (λ r. ArePairsBefore places.now r (length places.now) 0 (slice_index_or (map (λ p. p.items) local.items) r []))) }
+    ensures pairs { IfOk result (λ local. HavePairs places.now local.items) }
 {
     let mut local = Vec::new(alloc);
     'relations: for relation in 0..relations {
         let pairs = pairs_of(alloc, places, relation as u32)?;
-        if local.push(pairs).is_err() {
-            return Err(Memory);
-        }
+        local.push(pairs)?;
     }
     Ok(local)
 }
@@ -167,13 +167,8 @@ fn add_pairs(pairs: &mut Vec<(u32, u32)>, places: &[Labelled], i: usize) -> Resu
     let first = places[i];
     'later: for j in i + 1..places.len() {
         let second = places[j];
-        if second.column.relation == first.column.relation
-            && second.label == first.label
-            && pairs
-                .push((first.column.column, second.column.column))
-                .is_err()
-        {
-            return Err(Memory);
+        if second.column.relation == first.column.relation && second.label == first.label {
+            pairs.push((first.column.column, second.column.column))?;
         }
     }
     Ok(())
@@ -187,14 +182,12 @@ fn variable_sets(
 ) -> Result<Vec<Vec<u32>>, Memory>
     requires { length variables.now ≤ 1024 }
     ensures length { IfOk result (λ sets. length sets.items ≡ relations) }
-    ensures sets { IfOk result (λ sets. EachIndex sets.items (λ r. AreVariablesOf (map (λ c. c.items) variables.now) r (slice_index_or (map (λ s. s.items) sets.items) r []))) }
+    ensures sets { IfOk result (λ sets. HaveVariables (lists_in variables.now) sets.items) }
 {
     let mut sets = Vec::new(alloc);
     'relations: for relation in 0..relations {
         let set = set_of(alloc, variables, relation)?;
-        if sets.push(set).is_err() {
-            return Err(Memory);
-        }
+        sets.push(set)?;
     }
     Ok(sets)
 }
@@ -202,12 +195,12 @@ fn variable_sets(
 // The numbers of the variables with a column in a relation.
 fn set_of(alloc: Global, variables: &[Vec<ColumnRef>], relation: usize) -> Result<Vec<u32>, Memory>
     requires { length variables.now ≤ 1024 }
-    ensures { IfOk result (λ set. AreVariablesOf (map (λ c. c.items) variables.now) relation set.items) }
+    ensures { IfOk result (λ set. AreVariablesOf (lists_in variables.now) relation set.items) }
 {
     let mut set = Vec::new(alloc);
     'variables: for variable in 0..variables.len() {
-        if has_column_of(&variables[variable], relation) && set.push(variable as u32).is_err() {
-            return Err(Memory);
+        if has_column_of(&variables[variable], relation) {
+            set.push(variable as u32)?;
         }
     }
     Ok(set)

@@ -10,6 +10,7 @@ use Rattle.std.proofs.lemmas.List.FromFn.{length-map-range_with_len, get_or-map-
 use Rattle.std.proofs.lemmas.Nat.Bits.{bit_at-zero, bit_at_set_same, bit_at_set_other, shr_and_one, bit_at-trailing_zeros, bit_at_above}
 use Rattle.std.proofs.lemmas.Nat.{shr-shr}
 use Rattle.std.proofs.Math.Nat.{pos_of_ne-zero}
+use Rattle.rpt_base.proofs.ListFacts.{at-replicate}
 use Rattle.column_table.specs.Bits.{AreBits, is_set_in, bits_of}
 
 -- there is a bit for each row
@@ -20,14 +21,8 @@ pub bit-of : (words : List ℕ) (rows : ℕ) (bits : List Bool) (row : ℕ) → 
 bit-of words rows bits row e lt =
     rw (← e) (get_or-map-range_with_len (is_set_in words) 0 rows row row false (omega (arith, bits-length words rows bits e)) (omega arith))
 
--- words of zeros have no bit
-no-word : {X : Type 0} (n i : ℕ) (z : X) → get_or (replicate n z) i z ≡ z
-no-word zero i z = refl
-no-word (suc n) zero z = refl
-no-word (suc n) (suc i) z = no-word n i z
-
 no-bit : (n row : ℕ) → is_set_in (replicate n 0) row ≡ false
-no-bit n row = rw (no-word {X = ℕ} n (row / 64) 0, bit_at-zero (row % 64)) refl
+no-bit n row = rw (at-replicate {X = ℕ} n (row / 64) 0, bit_at-zero (row % 64)) refl
 
 all-false : (f : ℕ → Bool) (a n : ℕ) → ((k : ℕ) → f k ≡ false) → map f (range_with_len a n) ≡ replicate n false
 all-false f a zero h = refl

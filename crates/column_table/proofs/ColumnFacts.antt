@@ -11,9 +11,11 @@ use Rattle.rpt_base.specs.declared.values.ColumnType.{ColumnType}
 use Rattle.rpt_base.specs.declared.values.ColumnType.TheVariants as kind
 use Rattle.rpt_base.specs.declared.values.Value.{Value}
 use Rattle.rpt_base.specs.declared.values.Value.TheVariants as value
-use Rattle.column_table.specs.Table.{Filling, has_type, has_types, value_at}
-use Rattle.column_table.specs.Columns.{OneColumn, HasValues, HaveRows, IsFilling, cut, put, value_in, row_in, filling_of}
-use Rattle.column_table.proofs.ListFacts.{all-take, all-push, all-at, all-from, map-kept, map-range}
+use Rattle.column_table.specs.Table.{OpenTable, has_type, has_types, value_there}
+use Rattle.column_table.specs.Columns.{OneColumn, HasValues, HaveRows, IsOpenTable, cut, put, value_in, row_in, open_table_of}
+use Rattle.column_table.proofs.ListFacts.{all-take, all-push, all-at, all-from, map-kept}
+use Rattle.rpt_base.proofs.RangeFacts.{map-range}
+use Rattle.column_table.proofs.RowFacts.{types-length}
 
 -- ---- one column
 
@@ -103,9 +105,9 @@ rows-kept columns rows i c d lt same =
 -- ---- what the table's calls do
 
 -- what the columns show
-pub record Shows (columns : List OneColumn) (rows filled : ℕ) (table : Filling) : Type 0 where
-  pub are : IsFilling columns rows filled
-  pub shows : filling_of columns rows filled ≡ table
+pub record Shows (columns : List OneColumn) (rows filled : ℕ) (table : OpenTable) : Type 0 where
+  pub are : IsOpenTable columns rows filled
+  pub shows : open_table_of columns rows filled ≡ table
 
 -- the column that is to be filled next
 pub record IsNext (columns : List OneColumn) (rows filled : ℕ) (k : ColumnType) (o : OneColumn) : Type 0 where
@@ -117,7 +119,7 @@ pub record IsNext (columns : List OneColumn) (rows filled : ℕ) (k : ColumnType
 started-length : (columns : List OneColumn) (rows filled : ℕ) → filled ≤ length columns → length (map (value_in rows) (take filled columns)) ≡ filled
 started-length columns rows filled le = length-map (take filled columns) (value_in rows) ∙ length-take-le filled columns le
 
-pub next-is : (columns : List OneColumn) (rows filled : ℕ) (table : Filling) (k : ColumnType) (o : OneColumn) → IsFilling columns rows filled → filling_of columns rows filled ≡ table
+pub next-is : (columns : List OneColumn) (rows filled : ℕ) (table : OpenTable) (k : ColumnType) (o : OneColumn) → IsOpenTable columns rows filled → open_table_of columns rows filled ≡ table
     → slice_get table.kinds (length table.started) ≡ Some k → o ≡ get_or columns filled o → IsNext columns rows filled k o
 next-is columns rows filled table k o h same next is =
     let le : filled ≤ length columns = have-filled rows filled columns h.have in
@@ -132,7 +134,7 @@ next-is columns rows filled table k o h same next is =
     }
 
 -- the next column was refused a value
-pub shows-cut : (columns : List OneColumn) (rows filled : ℕ) (table : Filling) (k : ColumnType) (o c : OneColumn) → IsFilling columns rows filled → filling_of columns rows filled ≡ table
+pub shows-cut : (columns : List OneColumn) (rows filled : ℕ) (table : OpenTable) (k : ColumnType) (o c : OneColumn) → IsOpenTable columns rows filled → open_table_of columns rows filled ≡ table
     → IsNext columns rows filled k o → c ≡ cut o rows → Shows (set columns filled c) rows filled table
 shows-cut columns rows filled table k o c h same n is =
     let old : o ≡ get_or columns filled o = n.is in
@@ -150,7 +152,7 @@ shows-cut columns rows filled table k o c h same n is =
     }
 
 -- the next column was given a value
-pub shows-put : (columns : List OneColumn) (rows filled : ℕ) (table : Filling) (k : ColumnType) (o c : OneColumn) (v : Value) → IsFilling columns rows filled → filling_of columns rows filled ≡ table
+pub shows-put : (columns : List OneColumn) (rows filled : ℕ) (table : OpenTable) (k : ColumnType) (o c : OneColumn) (v : Value) → IsOpenTable columns rows filled → open_table_of columns rows filled ≡ table
     → IsNext columns rows filled k o → IsTrue (has_type k v) → c ≡ put o rows v
     → Shows (set columns filled c) rows (filled + 1) (record table { started = table.started ++ v ∷ [] })
 shows-put columns rows filled table k o c v h same n t is =
@@ -167,15 +169,15 @@ shows-put columns rows filled table k o c v h same n t is =
         few_rows = h.few_rows;
         few_columns = rw length-set h.few_columns;
       };
-      shows = rw (kinds, rows_are, started) (ap (λ (b : Filling). record b { started = b.started ++ v ∷ [] }) same);
+      shows = rw (kinds, rows_are, started) (ap (λ (b : OpenTable). record b { started = b.started ++ v ∷ [] }) same);
     }
 
 -- the row that has begun is given up
-pub shows-restart : (columns : List OneColumn) (rows filled : ℕ) → IsFilling columns rows filled → IsFilling columns rows 0
+pub shows-restart : (columns : List OneColumn) (rows filled : ℕ) → IsOpenTable columns rows filled → IsOpenTable columns rows 0
 shows-restart columns rows filled h = record { have = have-restart rows filled columns h.have; few_rows = h.few_rows; few_columns = h.few_columns }
 
 -- it is full, and becomes the last
-pub shows-end : (columns : List OneColumn) (rows filled : ℕ) (table : Filling) → IsFilling columns rows filled → filling_of columns rows filled ≡ table
+pub shows-end : (columns : List OneColumn) (rows filled : ℕ) (table : OpenTable) → IsOpenTable columns rows filled → open_table_of columns rows filled ≡ table
     → length table.started ≡ length table.kinds → rows < MAX_ROWS
     → Shows columns (rows + 1) 0 (record { kinds = table.kinds; rows = table.rows ++ table.started ∷ []; started = [] })
 shows-end columns rows filled table h same full room =
@@ -184,19 +186,19 @@ shows-end columns rows filled table h same full room =
     let whole : take filled columns ≡ columns = take_all filled columns (omega arith) in
     let more : map (row_in columns) (range_with_len 0 (rows + 1)) ≡ map (row_in columns) (range_with_len 0 rows) ++ row_in columns rows ∷ [] =
     map-range_with_len_more (row_in columns) 0 rows rows (omega arith) in
-    let last : row_in columns rows ≡ table.started = ap (map (value_in rows)) (sym whole) ∙ ap (λ (b : Filling). b.started) same in
+    let last : row_in columns rows ≡ table.started = ap (map (value_in rows)) (sym whole) ∙ ap (λ (b : OpenTable). b.started) same in
     record {
       are = record {
         have = rw add-one (have-end rows columns (rw all at h.have));
         few_rows = omega arith;
         few_columns = h.few_columns;
       };
-      shows = rw (more, last) (ap (λ (b : Filling). record { kinds = b.kinds; rows = b.rows ++ table.started ∷ []; started = [] }) same);
+      shows = rw (more, last) (ap (λ (b : OpenTable). record { kinds = b.kinds; rows = b.rows ++ table.started ∷ []; started = [] }) same);
     }
 
 -- the number of rows
-pub rows-count : (columns : List OneColumn) (rows filled : ℕ) (table : Filling) → filling_of columns rows filled ≡ table → length table.rows ≡ rows
-rows-count columns rows filled table same = ap (λ (b : Filling). length b.rows) (sym same) ∙ length-map-range_with_len (row_in columns) 0 rows
+pub rows-count : (columns : List OneColumn) (rows filled : ℕ) (table : OpenTable) → open_table_of columns rows filled ≡ table → length table.rows ≡ rows
+rows-count columns rows filled table same = ap (λ (b : OpenTable). length b.rows) (sym same) ∙ length-map-range_with_len (row_in columns) 0 rows
 
 -- a value of a column is of its type
 value-typed : (r : ℕ) (c : OneColumn) → r < length c.values → IsTrue (list_all (has_type c.kind) c.values) → IsTrue (has_type c.kind (value_in r c))
@@ -208,7 +210,7 @@ row-typed rows filled r [] h lt = refl
 row-typed rows zero r (c ∷ columns) h lt = and_from _ _ (value-typed r c (omega (arith, h.0.enough)) h.0.typed) (row-typed rows zero r columns h.1 lt)
 row-typed rows (suc filled) r (c ∷ columns) h lt = and_from _ _ (value-typed r c (omega (arith, h.0.enough)) h.0.typed) (row-typed rows filled r columns h.1 lt)
 
-pub rows-typed : (columns : List OneColumn) (rows filled : ℕ) (table : Filling) → IsFilling columns rows filled → filling_of columns rows filled ≡ table
+pub rows-typed : (columns : List OneColumn) (rows filled : ℕ) (table : OpenTable) → IsOpenTable columns rows filled → open_table_of columns rows filled ≡ table
     → IsTrue (list_all (has_types table.kinds) table.rows)
 rows-typed columns rows filled table h same =
     rw (← same)
@@ -241,12 +243,12 @@ shows-new columns kinds i is all few =
     }
 
 -- the value in a row and a column
-pub cell-at : (columns : List OneColumn) (rows filled row i : ℕ) (table : Filling) (o : OneColumn) (v : Value) → IsFilling columns rows filled → filling_of columns rows filled ≡ table
+pub cell-at : (columns : List OneColumn) (rows filled row i : ℕ) (table : OpenTable) (o : OneColumn) (v : Value) → IsOpenTable columns rows filled → open_table_of columns rows filled ≡ table
     → row < length table.rows → i < length table.kinds → o ≡ get_or columns i o → slice_get o.values row ≡ Some v
-    → value_at (record { kinds = table.kinds; rows = table.rows }) row i ≡ Some v
+    → value_there (record { kinds = table.kinds; rows = table.rows }) row i ≡ Some v
 cell-at columns rows filled row i table o v h same rlt ilt is here =
     let short : row < rows = omega (arith, rows-count columns rows filled table same) in
-    let within : i < length columns = omega (arith, ap (λ (b : Filling). length b.kinds) same, length-map columns (λ (c : OneColumn). c.kind)) in
+    let within : i < length columns = omega (arith, ap (λ (b : OpenTable). length b.kinds) same, length-map columns (λ (c : OneColumn). c.kind)) in
     let the_row : slice_get (map (row_in columns) (range_with_len 0 rows)) row ≡ Some (row_in columns row) =
     slice_get-get_or (map (row_in columns) (range_with_len 0 rows)) row [] (omega (arith, length-map-range_with_len (row_in columns) 0 rows))
     ∙ ap Some (get_or-map-range_with_len (row_in columns) 0 rows row row [] short (omega arith)) in
@@ -256,20 +258,14 @@ cell-at columns rows filled row i table o v h same rlt ilt is here =
     rw (← same) (rw the_row the_value)
 
 -- a cell's column has the row
-pub cell-within : (columns : List OneColumn) (rows filled row i : ℕ) (table : Filling) (o : OneColumn) → IsFilling columns rows filled → filling_of columns rows filled ≡ table
+pub cell-within : (columns : List OneColumn) (rows filled row i : ℕ) (table : OpenTable) (o : OneColumn) → IsOpenTable columns rows filled → open_table_of columns rows filled ≡ table
     → row < length table.rows → i < length table.kinds → o ≡ get_or columns i o → row < length o.values
 cell-within columns rows filled row i table o h same rlt ilt is =
-    let within : i < length columns = omega (arith, ap (λ (b : Filling). length b.kinds) same, length-map columns (λ (c : OneColumn). c.kind)) in
+    let within : i < length columns = omega (arith, ap (λ (b : OpenTable). length b.kinds) same, length-map columns (λ (c : OneColumn). c.kind)) in
     let has : HasValues rows o = rw is (have-at rows filled columns i o h.have within) in
     omega (arith, has.enough, rows-count columns rows filled table same)
 
 -- ---- a whole row is put
-
-types-length : (kinds : List ColumnType) (row : List Value) → IsTrue (has_types kinds row) → length row ≡ length kinds
-types-length [] [] h = refl
-types-length [] (v ∷ row) h = cc
-types-length (k ∷ kinds) [] h = cc
-types-length (k ∷ kinds) (v ∷ row) h = ap suc (types-length kinds row (and_parts (has_type k v) (has_types kinds row) h).1)
 
 types-at : (kinds : List ColumnType) (row : List Value) (i : ℕ) (d : Value) → IsTrue (has_types kinds row) → i < length row
     → IsSomeAnd (slice_get kinds i) (λ k. IsTrue (has_type k (get_or row i d)))
@@ -280,13 +276,13 @@ types-at (k ∷ kinds) (v ∷ row) zero d h lt = (and_parts (has_type k v) (has_
 types-at (k ∷ kinds) (v ∷ row) (suc i) d h lt = types-at kinds row i d (and_parts (has_type k v) (has_types kinds row) h).1 (omega arith)
 
 -- the next value is of the next column's type
-pub next-typed : (table : Filling) (kinds : List ColumnType) (rows : List (List Value)) (row : List Value) (i : ℕ) (v : Value) → table ≡ record { kinds = kinds; rows = rows; started = take i row }
+pub next-typed : (table : OpenTable) (kinds : List ColumnType) (rows : List (List Value)) (row : List Value) (i : ℕ) (v : Value) → table ≡ record { kinds = kinds; rows = rows; started = take i row }
     → IsTrue (has_types kinds row) → i < length row → v ≡ get_or row i v → IsSomeAnd (slice_get table.kinds (length table.started)) (λ k. IsTrue (has_type k v))
 next-typed table kinds rows row i v is typed lt here =
     let long : length (take i row) ≡ i = length-take-le i row (omega arith) in
     rw (is, long, here) (types-at kinds row i v typed lt)
 
 -- after the last value the row is full
-pub row-full : (table : Filling) (kinds : List ColumnType) (rows : List (List Value)) (row : List Value) (i : ℕ) → table ≡ record { kinds = kinds; rows = rows; started = take i row }
+pub row-full : (table : OpenTable) (kinds : List ColumnType) (rows : List (List Value)) (row : List Value) (i : ℕ) → table ≡ record { kinds = kinds; rows = rows; started = take i row }
     → IsTrue (has_types kinds row) → length row ≤ i → length table.started ≡ length table.kinds
 row-full table kinds rows row i is typed all = rw (is, take_all i row all) (types-length kinds row typed)

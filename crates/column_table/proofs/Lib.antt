@@ -1,6 +1,7 @@
 mod BitFacts
 mod ColumnFacts
 mod CountFacts
-pub mod ListFacts
+mod ListFacts
 mod RowFacts
 mod TextFacts
+pub mod FieldFacts

@@ -1,7 +1,7 @@
 -- Lists of values, of rows and of columns.
 use Rattle.std.proofs.Common.{◌≡◌, refl, ap, ℕ, zero, suc, ◌+◌, ◌<◌, Bool, List, [], ◌∷◌, ◌++◌, length, get_or, map, set, take, Some, arith}
 use Rattle.std.specs.Prelude.{IsTrue, Result, Ok, Err, OnErr, slice_get}
-use Rattle.std.specs.List.{list_all, range_with_len}
+use Rattle.std.specs.List.{list_all}
 use Rattle.std.proofs.lemmas.Bool.{and_parts, and_from}
 
 -- a test that all pass is passed by the first ones, by one more, and by each
@@ -29,11 +29,6 @@ pub map-kept : {X Y : Type 0} (f : X → Y) (xs : List X) (i : ℕ) (x d : X) �
 map-kept f [] i x d h e = refl
 map-kept f (y ∷ xs) zero x d h e = rw e refl
 map-kept f (y ∷ xs) (suc i) x d h e = ap (λ ys. f y ∷ ys) (map-kept f xs i x d (omega arith) e)
-
--- two functions of the numbers of a range
-pub map-range : {X : Type 0} (f g : ℕ → X) (a n : ℕ) → ((k : ℕ) → k < a + n → f k ≡ g k) → map f (range_with_len a n) ≡ map g (range_with_len a n)
-map-range f g a zero h = refl
-map-range f g a (suc n) h = rw (h a (omega arith), map-range f g (a + 1) n (λ k lt. h k (omega arith))) refl
 
 -- what holds anyway holds after a refusal
 pub on-err : {T E P : Type 0} (r : Result T E) → P → OnErr r P

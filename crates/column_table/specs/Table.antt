@@ -1,5 +1,6 @@
 -- A table as the list of its rows.
-use Rattle.std.specs.Prelude.{ℕ, ◌&&◌, Bool, true, false, List, [], ◌∷◌, map, Option, slice_get, option_and_then}
+use Rattle.std.specs.Prelude.{ℕ, ◌&&◌, Bool, true, false, List, [], ◌∷◌, ◌++◌, length, map}
+use Rattle.std.specs.Prelude.{pos, Option, slice_get, slice_index_or, option_and_then}
 use Rattle.std.specs.Str.{IsUtf8}
 use Rattle.rpt_base.specs.declared.values.Cell.{Cell}
 use Rattle.rpt_base.specs.declared.values.Cell.TheVariants as cell
@@ -14,11 +15,28 @@ pub record Rows : Type 0 where
   pub kinds : List ColumnType
   pub rows : List (List Value)
 
--- the same, and the values of a row that has only begun
-pub record Filling : Type 0 where
+-- the same, and the values of a row that has begun
+pub record OpenTable : Type 0 where
   pub kinds : List ColumnType
   pub rows : List (List Value)
   pub started : List Value
+
+-- the rows, where the one that has begun is given up
+abbrev pub ended_rows : OpenTable → Rows
+ended_rows table = record { kinds = table.kinds; rows = table.rows }
+
+-- the type of the next value of the row that has begun
+abbrev pub next_kind : OpenTable → Option ColumnType
+next_kind table = slice_get table.kinds (length table.started)
+
+-- one value more in the row that has begun
+abbrev pub with_value : OpenTable → Value → OpenTable
+with_value table v = record table { started = table.started ++ v ∷ [] }
+
+-- the row that has begun is the last
+abbrev pub with_row_ended : OpenTable → OpenTable
+with_row_ended table =
+    record { kinds = table.kinds; rows = table.rows ++ table.started ∷ []; started = [] }
 
 -- the types of declared columns
 abbrev pub types_of : List ColumnDecl → List ColumnType
@@ -48,9 +66,20 @@ abbrev pub value_of : Cell → Value
 value_of (cell.Int z) = value.Int z
 value_of (cell.Text text) = value.Text text.now
 
--- the value in a row and a column
-abbrev pub value_at : Rows → ℕ → ℕ → Option Value
-value_at table row column = option_and_then (λ values. slice_get values column) (slice_get table.rows row)
+-- what is read where there is no value
+abbrev pub no_value : Value
+no_value = value.Int (pos 0)
+
+-- a row of a table, and the value in a row and a column
+abbrev pub row_at : Rows → ℕ → List Value
+row_at table row = slice_index_or table.rows row []
+
+abbrev pub value_at : Rows → ℕ → ℕ → Value
+value_at table row column = slice_index_or (row_at table row) column no_value
+
+-- the value in a row and a column, where the table has both
+abbrev pub value_there : Rows → ℕ → ℕ → Option Value
+value_there table row column = option_and_then (λ values. slice_get values column) (slice_get table.rows row)
 
 -- a text that a cell shows is UTF-8
 abbrev pub IsUtf8Cell : Cell → Type 0

@@ -64,9 +64,7 @@ impl Column {
         match &mut self.content {
             Content::Numbers(numbers) => {
                 numbers.truncate(at);
-                if numbers.push(number).is_err() {
-                    return Err(Memory);
-                }
+                numbers.push(number)?;
                 Ok(())
             }
             Content::Texts(_) => unreachable!(),

@@ -8,13 +8,14 @@
 
 mod builder;
 mod column;
-mod columns;
 mod declared;
+mod laws;
 mod row_bits;
 mod table;
 mod texts;
 
 pub use builder::TableBuilder;
 pub use declared::{ColumnDecl, Decl};
+pub use laws::texts_are_read;
 pub use row_bits::RowBits;
 pub use table::Table;

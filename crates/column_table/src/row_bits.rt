@@ -1,5 +1,6 @@
 // Sets of a table's rows.
-ghost use Rattle.std.specs.Prelude.{ℕ, ◌/◌, ◌≡◌, ◌<◌, ◌≤◌, IfOk, false, true, length, replicate, slice_index, slice_index_or, slice_set};
+ghost use Rattle.std.specs.Prelude.{ℕ, ◌/◌, ◌≡◌, ◌<◌, ◌≤◌, IfOk, false, true, length};
+ghost use Rattle.std.specs.Prelude.{replicate, slice_index, slice_index_or, slice_set};
 ghost use Rattle.std.specs.List.{count_by};
 ghost use Rattle.column_table.specs.Bits.{set_rows};
 
@@ -31,9 +32,7 @@ impl RowBits {
     pub fn none(alloc: Global, rows: u32) -> Result<RowBits, Memory>
         ensures { IfOk result (λ b. b ≡ replicate rows false) }
     {
-        let Ok(words) = vec![in alloc; 0; rows.div_ceil(64) as usize] else {
-            return Err(Memory);
-        };
+        let words = vec![in alloc; 0; rows.div_ceil(64) as usize]?;
         Ok(RowBits { words, rows })
     }
 
@@ -78,9 +77,7 @@ impl RowBits {
         let mut rows = Vec::new(alloc);
         let mut row = self.next_from(0);
         while row < self.rows() {
-            if rows.push(row).is_err() {
-                return Err(Memory);
-            }
+            rows.push(row)?;
             row = self.next_from(row + 1);
         }
         Ok(rows)

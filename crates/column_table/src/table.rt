@@ -1,10 +1,11 @@
 // Tables.
-ghost use Rattle.std.specs.Prelude.{◌≡◌, ◌<◌, ◌≤◌, ◌++◌, ◌∷◌, [], IfOk, OnOk, OnErr, IsTrue, Some, length, slice_get};
+ghost use Rattle.std.specs.Prelude.{◌≡◌, ◌<◌, ◌≤◌, ◌++◌, ◌∷◌, [], IfOk, OnOk};
+ghost use Rattle.std.specs.Prelude.{OnErr, IsTrue, Some, length, slice_get};
 ghost use Rattle.std.specs.List.{list_all};
 ghost use Rattle.rpt_base.specs.declared.limits.TheConstants.{MAX_ROWS};
-ghost use Rattle.column_table.specs.Table.{IsUtf8Cell, has_types, value_at, value_of};
+ghost use Rattle.column_table.specs.Table.{IsUtf8Cell, has_types, value_there, value_of};
 
-use crate::columns::Columns;
+use crate::builder::TableBuilder;
 use rpt_base::{Cell, ColumnType, Memory, Value};
 use std::alloc::Global;
 use std::marker::Model;
@@ -12,15 +13,16 @@ use std::marker::Model;
 /// A table with typed columns. Contracts see it as the types of its columns and the list of its rows.
 #[derive(Debug, Drop)]
 pub struct Table {
-    pub(crate) columns: Columns,
+    // A row that was refused may have begun in it.
+    pub(crate) builder: TableBuilder,
 }
 
 impl Model for Table {
-    ghost use Rattle.column_table.specs.Table.{Rows};
+    ghost use Rattle.column_table.specs.Table.{Rows, ended_rows};
 
     ghost Value = { Rows };
 
-    ghost view = { λ t. record { kinds = t.columns.kinds; rows = t.columns.rows } };
+    ghost view = { λ t. ended_rows t.builder };
 }
 
 impl Table {
@@ -30,7 +32,7 @@ impl Table {
         ensures { IfOk result (λ t. t ≡ record { kinds = kinds.now; rows = [] }) }
     {
         Ok(Table {
-            columns: Columns::new(alloc, kinds)?,
+            builder: TableBuilder::new(alloc, kinds)?,
         })
     }
 
@@ -41,11 +43,11 @@ impl Table {
         ensures ok { OnOk result (self.new ≡ record self.old { rows = self.old.rows ++ row.now ∷ [] }) }
         ensures err { OnErr result (self.new ≡ self.old) }
     {
-        self.columns.restart();
+        self.builder.restart();
         for value in row {
-            self.columns.put(value)?;
+            self.builder.put(value)?;
         }
-        self.columns.end_row();
+        self.builder.end_row();
         Ok(())
     }
 
@@ -53,10 +55,10 @@ impl Table {
     pub fn cell(&self, row: u32, column: u32) -> Cell<'_>
         requires row { row < length self.now.rows }
         requires column { column < length self.now.kinds }
-        ensures value { value_at self.now row column ≡ Some (value_of result) }
+        ensures value { value_there self.now row column ≡ Some (value_of result) }
         ensures utf8 { IsUtf8Cell result }
     {
-        self.columns.cell(row, column)
+        self.builder.cell(row, column)
     }
 
     /// The number of rows. There are at most `MAX_ROWS`, and each has a value of the right type in each column.
@@ -65,14 +67,14 @@ impl Table {
         ensures limit { length self.now.rows ≤ MAX_ROWS }
         ensures typed { IsTrue (list_all (has_types self.now.kinds) self.now.rows) }
     {
-        self.columns.rows()
+        self.builder.rows()
     }
 
     /// The number of columns.
     pub fn columns(&self) -> u32
         ensures { result ≡ length self.now.kinds }
     {
-        self.columns.columns()
+        self.builder.columns()
     }
 
     /// The type of a column, numbered from 0.
@@ -80,6 +82,6 @@ impl Table {
         requires { column < length self.now.kinds }
         ensures { slice_get self.now.kinds column ≡ Some result }
     {
-        self.columns.kind(column)
+        self.builder.kind(column)
     }
 }

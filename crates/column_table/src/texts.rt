@@ -1,5 +1,6 @@
 // A column of texts.
-ghost use Rattle.std.specs.Prelude.{◌≡◌, ◌<◌, ◌≤◌, ◌++◌, ◌∷◌, [], OnOk, OnErr, length, take, slice_index, slice_get, Some};
+ghost use Rattle.std.specs.Prelude.{◌≡◌, ◌<◌, ◌≤◌, ◌++◌, ◌∷◌, [], OnOk, OnErr};
+ghost use Rattle.std.specs.Prelude.{length, take, slice_index, slice_get, Some};
 ghost use Rattle.std.specs.Str.{IsUtf8};
 
 use rpt_base::Memory;
@@ -48,12 +49,8 @@ impl TextColumn {
         let start = start_of(&self.ends, at);
         self.ends.truncate(at);
         self.bytes.truncate(start);
-        if self.bytes.extend_from_slice(text.as_bytes()).is_err() {
-            return Err(Memory);
-        }
-        if self.ends.push(self.bytes.len()).is_err() {
-            return Err(Memory);
-        }
+        self.bytes.extend_from_slice(text.as_bytes())?;
+        self.ends.push(self.bytes.len())?;
         Ok(())
     }
 

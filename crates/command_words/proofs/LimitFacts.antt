@@ -11,7 +11,7 @@ use Rattle.command_words.specs.declared.settings.Settings.{Settings}
 use Rattle.command_words.specs.declared.words.Command.{Command}
 use Rattle.command_words.specs.declared.words.Mode.{Mode}
 use Rattle.command_words.specs.declared.words.Mode.TheVariants as mode
-use Rattle.command_words.specs.declared.words.WordsError.{WordsError}
+use Rattle.command_words.specs.declared.errors.WordsError.{WordsError}
 use Rattle.command_words.specs.Words.{begins_with_dash, command_with, filter_of, GivesCommand, is_script, IsWithinLimits, may_have, morsel_of, no_settings, number_of, passing, sample_number, set_filter, set_morsel, set_once, set_order, set_workers, settings_behind, takes_force, with_option, workers_of}
 
 -- the settings that are there keep to their limits

@@ -3,8 +3,8 @@ use Rattle.std.proofs.Common.{◌≡◌, ◌∙◌, ap, ℕ, ◌+◌, ◌-◌, �
 use Rattle.std.specs.Prelude.{true, false, Option, None, Some, Ok, Err, String, string_bytes}
 use Rattle.std.proofs.lemmas.List.{drop-drop, drop-map, drop_all, length-drop, get_or-map, length-map}
 use Rattle.command_words.specs.Steps.{GivesSettings, TakesOption, TakesSetting}
-use Rattle.command_words.specs.declared.words.WordsError.{WordsError}
-use Rattle.command_words.specs.declared.words.WordsError.TheVariants as words_error
+use Rattle.command_words.specs.declared.errors.WordsError.{WordsError}
+use Rattle.command_words.specs.declared.errors.WordsError.TheVariants as words_error
 use Rattle.command_words.specs.Words.{no_settings, settings_behind, takes_force, with_option, words_of}
 use Rattle.command_words.specs.declared.settings.Settings.{Settings}
 

@@ -3,8 +3,8 @@
 use Rattle.std.specs.Prelude.{◌≡◌, ℕ, ◌≤◌, List, drop, length, Result, Ok, Err, Option, Some, None}
 use Rattle.command_words.specs.Words.{settings_behind}
 use Rattle.command_words.specs.declared.settings.Settings.{Settings}
-use Rattle.command_words.specs.declared.words.WordsError.{WordsError}
-use Rattle.command_words.specs.declared.words.WordsError.TheVariants as words_error
+use Rattle.command_words.specs.declared.errors.WordsError.{WordsError}
+use Rattle.command_words.specs.declared.errors.WordsError.TheVariants as words_error
 
 -- the settings of words, or that they are none; or memory ran out
 abbrev pub GivesSettings : Option Settings → Result Settings WordsError → Type 0
@@ -20,6 +20,7 @@ TakesOption said new (Err words_error.Memory) = Unit {0}
 
 -- some words were taken, and the rest says what all said; or they say nothing; or memory ran out
 abbrev pub TakesSetting : Settings → Settings → List (List ℕ) → Result ℕ WordsError → Type 0
-TakesSetting old new words (Ok n) = (1 ≤ n) × (n ≤ length words) × (settings_behind old words ≡ settings_behind new (drop n words))
+TakesSetting old new words (Ok n) =
+    (1 ≤ n) × (n ≤ length words) × (settings_behind old words ≡ settings_behind new (drop n words))
 TakesSetting old new words (Err words_error.Usage) = settings_behind old words ≡ None
 TakesSetting old new words (Err words_error.Memory) = Unit {0}

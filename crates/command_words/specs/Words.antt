@@ -1,5 +1,7 @@
 -- How the words of the command line are read.
-use Rattle.std.specs.Prelude.{◌≡◌, Result, Ok, Err, map, String, string_bytes, ℕ, ◌%◌, ◌==◌, Bool, true, false, not, ◌&&◌, ◌||◌, List, [], ◌∷◌, length, Option, None, Some, IsSome, codes, if◌then◌else◌, bytes_eq, nat_le}
+use Rattle.std.specs.Prelude.{◌≡◌, ℕ, ◌%◌, ◌==◌, nat_le, Bool, true, false, not, ◌&&◌, ◌||◌, if◌then◌else◌}
+use Rattle.std.specs.Prelude.{String, string_bytes, codes, bytes_eq, List, [], ◌∷◌, length, map}
+use Rattle.std.specs.Prelude.{Result, Ok, Err, Option, None, Some, IsSome}
 use Rattle.std.specs.Char.{is_ascii_digit}
 use Rattle.std.specs.List.{list_all}
 use Rattle.std.specs.Option.{is_some, option_and_then, unwrap_or}
@@ -12,8 +14,8 @@ use Rattle.command_words.specs.declared.words.Command.{Command}
 use Rattle.command_words.specs.declared.words.Mode.{Mode}
 use Rattle.command_words.specs.declared.words.Mode.TheVariants as mode
 use Rattle.command_words.specs.declared.settings.Settings.{Settings}
-use Rattle.command_words.specs.declared.words.WordsError.{WordsError}
-use Rattle.command_words.specs.declared.words.WordsError.TheVariants as words_error
+use Rattle.command_words.specs.declared.errors.WordsError.{WordsError}
+use Rattle.command_words.specs.declared.errors.WordsError.TheVariants as words_error
 
 -- the bytes of each word
 abbrev pub words_of : {Z : Type 0} → List (String Z) → List (List ℕ)

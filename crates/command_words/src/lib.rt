@@ -4,9 +4,11 @@
 //! A command's workers and morsel keep to their limits, and in mode sample its script is a number, which `sample_number` gives.
 #![tactic(auto)]
 
+mod errors;
 mod numbers;
 mod settings;
 mod words;
 
+pub use errors::WordsError;
 pub use numbers::sample_number;
-pub use words::{Command, Mode, WordsError, read_words};
+pub use words::{Command, Mode, read_words};

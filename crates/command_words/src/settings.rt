@@ -4,8 +4,8 @@ ghost use Rattle.command_words.specs.Words.{begins_with_dash, filter_of, no_sett
 ghost use Rattle.command_words.specs.Words.{set_filter, set_morsel, set_order, set_workers, with_option};
 ghost use Rattle.command_words.specs.Steps.{GivesSettings, TakesOption, TakesSetting};
 
+use crate::errors::WordsError;
 use crate::numbers::{morsel_of, workers_of};
-use crate::words::WordsError;
 use rpt_base::{FilterKind, Str};
 use std::alloc::Global;
 
@@ -33,10 +33,8 @@ pub(crate) fn read_settings(alloc: Global, words: &[String]) -> Result<Settings,
     };
     let mut at = 0;
     while at < words.len() {
-        match take_setting(alloc, &mut settings, words_from(words, at)) {
-            Ok(taken) => at += taken,
-            Err(error) => return Err(error),
-        }
+        let taken = take_setting(alloc, &mut settings, words_from(words, at))?;
+        at += taken;
     }
     Ok(settings)
 }
@@ -66,10 +64,8 @@ fn take_setting(
     if words.len() < 2 {
         return Err(WordsError::Usage);
     }
-    match take_option(alloc, settings, word, words[1].as_str()) {
-        Ok(()) => Ok(2),
-        Err(error) => Err(error),
-    }
+    take_option(alloc, settings, word, words[1].as_str())?;
+    Ok(2)
 }
 
 fn takes_force(settings: &Settings, word: &str) -> bool
@@ -142,13 +138,9 @@ fn take_order(alloc: Global, settings: &mut Settings, value: &str) -> Result<(),
     if settings.order.is_some() {
         return Err(WordsError::Usage);
     }
-    match Str::from_text(alloc, value) {
-        Ok(order) => {
-            settings.order = Some(order);
-            Ok(())
-        }
-        Err(_) => Err(WordsError::Memory),
-    }
+    let order = Str::from_text(alloc, value)?;
+    settings.order = Some(order);
+    Ok(())
 }
 
 // The filters that a word names.

@@ -3,6 +3,7 @@ ghost use Rattle.std.specs.Prelude.{◌≡◌, IfOk};
 ghost use Rattle.command_words.specs.Words.{GivesCommand, IsWithinLimits, command_of, command_with};
 ghost use Rattle.command_words.specs.Words.{may_have, mode_of, words_of};
 
+use crate::errors::WordsError;
 use crate::numbers::sample_number;
 use crate::settings::{Settings, is_option, read_settings};
 use rpt_base::{FilterKind, Str};
@@ -41,15 +42,6 @@ pub struct Command {
     pub force: bool,
 }
 
-/// Why the words give no command.
-#[derive(Clone, Copy, Debug, PartialEq, Eq)]
-pub enum WordsError {
-    /// They are no command.
-    Usage,
-    /// Want of memory.
-    Memory,
-}
-
 // How many workers there are where the words don't say it.
 const DEFAULT_WORKERS: u32 = 4;
 
@@ -79,10 +71,8 @@ pub fn read_words(alloc: Global, words: &[String]) -> Result<Command, WordsError
     if !may_have(mode, script, folder) {
         return Err(WordsError::Usage);
     }
-    match read_settings(alloc, settings) {
-        Ok(settings) => command_with(alloc, mode, script, folder, settings),
-        Err(error) => Err(error),
-    }
+    let settings = read_settings(alloc, settings)?;
+    command_with(alloc, mode, script, folder, settings)
 }
 
 // Whether a mode can have these: neither begins with a dash, and in mode sample the script is a number.
@@ -108,12 +98,8 @@ fn command_with(
 ) -> Result<Command, WordsError>
     ensures { GivesCommand (Some (command_with mode script.now folder.now settings)) result }
 {
-    let Ok(script) = Str::from_text(alloc, script) else {
-        return Err(WordsError::Memory);
-    };
-    let Ok(folder) = Str::from_text(alloc, folder) else {
-        return Err(WordsError::Memory);
-    };
+    let script = Str::from_text(alloc, script)?;
+    let folder = Str::from_text(alloc, folder)?;
     Ok(Command {
         mode,
         script,

@@ -2,10 +2,11 @@
 ghost use Rattle.std.specs.Prelude.{◌≡◌, ◌<◌, IfOk, IsTrue, Some, length, slice_get};
 ghost use Rattle.std.specs.Option.{SomeIff};
 ghost use Rattle.std.specs.Str.Parse.{signed_digits_value};
-ghost use Rattle.csv_load.specs.FileTable.{fault_of, is_int, value_of};
+ghost use Rattle.csv_load.specs.FileTable.{fault_of};
+ghost use Rattle.column_table.specs.FieldText.{field_value, is_int};
 ghost use Rattle.csv_load.specs.Loads.{PutsField};
 
-use crate::refusal::LoadError;
+use crate::errors::LoadError;
 use column_table::TableBuilder;
 use rpt_base::{ColumnType, Memory};
 use std::str;
@@ -17,7 +18,7 @@ pub(crate) fn put_field(
     field: &[u8],
 ) -> Result<bool, Memory>
     requires { slice_get builder.old.kinds (length builder.old.started) ≡ Some kind }
-    ensures { IfOk result (λ good. PutsField (value_of kind field.now) builder.old builder.new good) }
+    ensures { IfOk result (λ good. PutsField (field_value kind field.now) builder.old builder.new good) }
 {
     match kind {
         ColumnType::Int => match int_of(field) {

@@ -2,13 +2,14 @@
 ghost use Rattle.std.specs.Prelude.{◌≡◌, ◌==◌, ◌≤◌, [], IfOk, OnOk, length};
 ghost use Rattle.rpt_base.specs.declared.limits.TheConstants.{MAX_COLUMNS};
 ghost use Rattle.csv.specs.Records.{fields_of};
-ghost use Rattle.csv_load.specs.FileTable.{cells_of, is_named, place_in, places_of as places_said};
+ghost use Rattle.csv_load.specs.FileTable.{is_named, place_in, places_of as places_said};
 ghost use Rattle.column_table.specs.Table.{types_of};
+ghost use Rattle.csv_load.specs.Layouts.{cells_in};
 ghost use Rattle.csv_load.specs.Loads.{Refuses};
 
+use crate::errors::LoadError;
 use crate::fields::{fault, put_field};
 use crate::records::field_at;
-use crate::refusal::LoadError;
 use column_table::{ColumnDecl, TableBuilder};
 use csv::ByteRecord;
 use rpt_base::Name;
@@ -25,17 +26,14 @@ pub(crate) struct RowLayout<'a> {
 }
 
 impl<'a> Model for RowLayout<'a> {
-    ghost use Rattle.std.specs.Prelude.{◌≡◌, ◌≤◌, Ok, length};
-    ghost use Rattle.rpt_base.specs.declared.limits.TheConstants.{MAX_COLUMNS};
     ghost use Rattle.csv.specs.Records.{fields_of};
-    ghost use Rattle.csv_load.specs.FileTable.{places_of};
-    ghost use Rattle.csv_load.specs.Layouts.{FileLayout};
+    ghost use Rattle.csv_load.specs.Layouts.{FileLayout, IsLayout, layout_of};
 
     ghost Value = { FileLayout };
 
-    ghost view = { λ l. record { columns = l.columns.now; header = fields_of l.header; places = l.places.items } };
+    ghost view = { λ l. layout_of l.columns.now (fields_of l.header) l.places.items };
 
-    ghost invariant = { λ l. (places_of l.columns.now (fields_of l.header) ≡ Ok l.places.items) × (length l.columns.now ≤ MAX_COLUMNS) };
+    ghost invariant = { λ l. IsLayout l.columns.now (fields_of l.header) l.places.items };
 }
 
 impl<'a> RowLayout<'a> {
@@ -52,14 +50,12 @@ impl<'a> RowLayout<'a> {
         ensures header { IfOk result (λ layout. layout.header ≡ fields_of header) }
         ensures refused { Refuses (places_said columns.now (fields_of header)) result }
     {
-        match places_of(alloc, columns, &header) {
-            Ok(places) => Ok(RowLayout {
-                columns,
-                header,
-                places,
-            }),
-            Err(refusal) => Err(refusal),
-        }
+        let places = places_of(alloc, columns, &header)?;
+        Ok(RowLayout {
+            columns,
+            header,
+            places,
+        })
     }
 
     /// Puts the values of a record in the declared columns into the started row, which has none yet. The refusal is that of
@@ -72,9 +68,9 @@ impl<'a> RowLayout<'a> {
     ) -> Result<(), LoadError>
         requires kinds { builder.old.kinds ≡ types_of self.now.columns }
         requires none_yet { builder.old.started ≡ [] }
-        ensures cells { OnOk result (cells_of self.now.columns self.now.header row (fields_of fields.now) ≡ Ok builder.new.started) }
+        ensures cells { OnOk result (cells_in self.now row (fields_of fields.now) ≡ Ok builder.new.started) }
         ensures others { OnOk result (builder.new ≡ record builder.old { started = builder.new.started }) }
-        ensures refused { Refuses (cells_of self.now.columns self.now.header row (fields_of fields.now)) result }
+        ensures refused { Refuses (cells_in self.now row (fields_of fields.now)) result }
     {
         if !is_as_long(fields, &self.header) {
             return Err(LoadError::Ragged { row });
@@ -106,18 +102,14 @@ fn places_of(
     ensures places { IfOk result (λ places. places_said columns.now (fields_of header.now) ≡ Ok places.items) }
     ensures refused { Refuses (places_said columns.now (fields_of header.now)) result }
 {
-    let Ok(mut places) = Vec::with_capacity(alloc, columns.len()) else {
-        return Err(LoadError::Memory);
-    };
+    let mut places = Vec::with_capacity(alloc, columns.len())?;
     'columns: for column in 0..columns.len() {
         let Some(place) = place_of(header, &columns[column].name) else {
             return Err(LoadError::Header {
                 column: column as u32,
             });
         };
-        if places.push(place).is_err() {
-            return Err(LoadError::Memory);
-        }
+        places.push(place)?;
     }
     Ok(places)
 }

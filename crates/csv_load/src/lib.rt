@@ -5,11 +5,11 @@
 //! definition has it, at the first bad record and its first bad column.
 #![tactic(auto)]
 
+mod errors;
 mod fields;
 mod layout;
 mod loading;
 mod records;
-mod refusal;
 
+pub use errors::LoadError;
 pub use loading::load;
-pub use refusal::LoadError;

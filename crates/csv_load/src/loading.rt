@@ -1,13 +1,14 @@
 // A table from the bytes of its file.
 ghost use Rattle.std.specs.Prelude.{◌≡◌, ◌≤◌, [], IfOk, OnOk, length};
 ghost use Rattle.rpt_base.specs.declared.limits.TheConstants.{MAX_COLUMNS, MAX_ROWS};
-ghost use Rattle.csv_load.specs.FileTable.{file_table, rows_of};
+ghost use Rattle.csv_load.specs.FileTable.{file_table};
+ghost use Rattle.csv_load.specs.Layouts.{rows_in};
 ghost use Rattle.column_table.specs.Table.{types_of};
 ghost use Rattle.csv_load.specs.Loads.{Refuses};
 
+use crate::errors::LoadError;
 use crate::layout::RowLayout;
 use crate::records::RecordReader;
-use crate::refusal::LoadError;
 use column_table::{ColumnDecl, Decl, Table, TableBuilder};
 use csv::ByteRecord;
 use rpt_base::limits::MAX_ROWS;
@@ -50,15 +51,10 @@ pub(crate) fn table_within(
         Ok(false) => header.clear(),
         Err(_) => return Err(LoadError::Memory),
     }
-    let layout = match RowLayout::find(alloc, columns, header) {
-        Ok(layout) => layout,
-        Err(refusal) => return Err(refusal),
-    };
+    let layout = RowLayout::find(alloc, columns, header)?;
     let mut builder = empty(alloc, columns)?;
-    match fill_rows(alloc, limit, &layout, &mut reader, &mut builder) {
-        Ok(()) => Ok(builder.finish()),
-        Err(refusal) => Err(refusal),
-    }
+    fill_rows(alloc, limit, &layout, &mut reader, &mut builder)?;
+    Ok(builder.finish())
 }
 
 // A table with these columns and without rows.
@@ -73,10 +69,8 @@ fn empty(alloc: Global, columns: &[ColumnDecl]) -> Result<TableBuilder, Memory>
 fn kinds(alloc: Global, columns: &[ColumnDecl]) -> Result<Vec<ColumnType>, Memory>
     ensures { IfOk result (λ kinds. kinds.items ≡ types_of columns.now) }
 {
-    match columns.iter().map(|c| c.kind).collect(alloc) {
-        Ok(kinds) => Ok(kinds),
-        Err(_) => Err(Memory),
-    }
+    let kinds = columns.iter().map(|c| c.kind).collect(alloc)?;
+    Ok(kinds)
 }
 
 // Fills the rows of the records that are left, of which there may be so many.
@@ -89,9 +83,9 @@ fn fill_rows(
 ) -> Result<(), LoadError>
     requires limit { limit ≤ MAX_ROWS }
     requires empty { builder.old ≡ record { kinds = types_of layout.now.columns; rows = []; started = [] } }
-    ensures rows { OnOk result (rows_of limit layout.now.columns layout.now.header reader.old ≡ Ok builder.new.rows) }
+    ensures rows { OnOk result (rows_in limit layout.now reader.old ≡ Ok builder.new.rows) }
     ensures kinds { OnOk result (builder.new.kinds ≡ types_of layout.now.columns) }
-    ensures refused { Refuses (rows_of limit layout.now.columns layout.now.header reader.old) result }
+    ensures refused { Refuses (rows_in limit layout.now reader.old) result }
 {
     let mut record = ByteRecord::new(alloc);
     'records: for row in 0..limit {
@@ -100,10 +94,8 @@ fn fill_rows(
             Ok(false) => return Ok(()),
             Err(_) => return Err(LoadError::Memory),
         }
-        match layout.fill(row, &record, builder) {
-            Ok(()) => builder.end_row(),
-            Err(refusal) => return Err(refusal),
-        }
+        layout.fill(row, &record, builder)?;
+        builder.end_row();
     }
     // A record past the limit is one too many whatever it holds.
     match reader.next_into(&mut record) {

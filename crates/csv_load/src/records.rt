@@ -1,8 +1,9 @@
 // The records of a file, read one by one.
-ghost use Rattle.std.specs.Prelude.{◌≡◌, ◌∷◌, [], IfErr, IfOk, MatchBool, slice_index_or, true};
+ghost use Rattle.std.specs.Prelude.{◌≡◌, [], IfErr, IfOk, slice_index_or, true};
 ghost use Rattle.csv.specs.Reading.{error_kind, stops_reader};
 ghost use Rattle.csv.specs.Records.{fields_of};
 ghost use Rattle.csv_load.specs.FileTable.{file_records};
+ghost use Rattle.csv_load.specs.Left.{TakesRecord};
 
 use csv::{ByteRecord, Error, Reader, ReaderBuilder};
 use std::alloc::Global;
@@ -48,7 +49,7 @@ impl<'a> RecordReader<'a> {
     ///
     /// An error is a fault of reading, which a slice doesn't have, or want of memory; no record is refused for what it holds.
     pub(crate) fn next_into(&mut self, fields: &mut ByteRecord) -> Result<bool, Error>
-        ensures reads { IfOk result (λ found. MatchBool found (self.old ≡ fields_of fields.new ∷ self.new) ((self.old ≡ []) × (self.new ≡ []))) }
+        ensures reads { IfOk result (TakesRecord self.old (fields_of fields.new) self.new) }
         ensures stops { IfErr result (λ e. stops_reader (error_kind e) ≡ true) }
     {
         if self.done {

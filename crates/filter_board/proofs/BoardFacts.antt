@@ -1,5 +1,5 @@
 -- What a board's invariant says of it as contracts see it.
-use Rattle.std.proofs.Common.{◌≡◌, ℕ, zero, suc, ◌<◌, ◌^◌, List, [], ◌∷◌, get_or, length, map, refl, ap, subst, arith}
+use Rattle.std.proofs.Common.{◌≡◌, ℕ, ◌<◌, ◌^◌, List, [], ◌∷◌, refl, ap, subst}
 use Rattle.atomic_table.specs.Seated.{TableId}
 use Rattle.rpt_base.specs.Limits.{AreWorkers}
 use Rattle.key_codes.specs.Placement.{IsLawful, Places}
@@ -7,16 +7,12 @@ use Rattle.transfer_core.specs.Job.{IsRight, job_of}
 use Rattle.transfer_core.specs.Plans.{IsValid, shape_of}
 use Rattle.transfer_core.specs.declared.plan.Plan.{Plan}
 use Rattle.transfer_core.proofs.Regions.{right}
+use Rattle.transfer_core.proofs.PlainFacts.{lawful_list}
 use Rattle.filter_board.specs.declared.setup.Setup.{Setup}
 use Rattle.filter_board.specs.Laid.{IsLaidOut}
 use Rattle.filter_board.specs.Layout.{AreRooms, AreStarts, word_count}
 use Rattle.filter_board.specs.Shares.{parts_of}
 use Rattle.filter_board.specs.Views.{BoardView, job_in, shape_in}
-
-lawful_list : {P : Type 0} (seen : P → Places) → ((x : P) → IsLawful (seen x)) → (xs : List P) (k : ℕ) (d : Places) → k < length (map seen xs) → IsLawful (get_or (map seen xs) k d)
-lawful_list seen law [] k d l = absurd (omega arith)
-lawful_list seen law (x ∷ xs) zero d l = law x
-lawful_list seen law (x ∷ xs) (suc k) d l = lawful_list seen law xs k d (omega arith)
 
 -- the job of a valid plan is right
 pub right_plan : {P : Type 0} (seen : P → Places) → ((x : P) → IsLawful (seen x)) → (plan : Plan P) → IsValid (shape_of seen plan) → IsRight (job_of (shape_of seen plan))

@@ -1,9 +1,8 @@
 -- The end of a morsel keeps a sound board.
-use Rattle.std.proofs.Common.{◌≡◌, ℕ, ◌+◌, ◌<◌, ◌≤◌, ◌&&◌, List, [], ◌∷◌, length, get_or, set, true, sym, refl, ap, ◌∙◌, subst, arith, eqb, length-set}
-use Rattle.std.proofs.lemmas.Bool.{and_parts, eqb-true}
+use Rattle.std.proofs.Common.{◌≡◌, ℕ, ◌+◌, ◌<◌, ◌≤◌, ◌&&◌, List, [], ◌∷◌, length, set, true, sym, refl, ap, ◌∙◌, subst, arith, eqb, length-set}
 use mathlib.Core.Option.{some}
 use lib.ListN.{get_elem?}
-use Rattle.transfer_core.specs.Actors.{Holds, holding, is_listed}
+use Rattle.transfer_core.specs.Actors.{Holds, is_listed}
 use Rattle.transfer_core.specs.Job.{IsRight, job_of}
 use Rattle.transfer_core.specs.Plans.{Shape}
 use Rattle.transfer_core.specs.Sound.{IsSound}
@@ -11,17 +10,12 @@ use Rattle.transfer_core.specs.Steps.{ListsAllPuts}
 use Rattle.transfer_core.proofs.Keeps.{each_set, finishes, not_full}
 use Rattle.transfer_core.proofs.Sums.{total-set}
 use Rattle.transfer_core.proofs.ValidFacts.{any_at}
+use Rattle.transfer_core.proofs.StepFacts.{first_pair, pair_is}
 use Rattle.filter_board.specs.declared.share.Share.{Share}
 use Rattle.filter_board.specs.Layout.{done_of, drawn_of, regions_in}
 use Rattle.filter_board.specs.Rule.{IsSoundBoard, IsSoundShare, actors_of, told_parts}
 use Rattle.filter_board.specs.Shares.{after_finish}
 use Rattle.filter_board.proofs.WordFacts.{actor_at, actors_set, agrees, done_drawn, done_else, done_here, done_word, grows}
-
-first_pair : (x y : ℕ × ℕ) → x ∷ [] ≡ y ∷ [] → x ≡ y
-first_pair x y e = ap (λ (l : List (ℕ × ℕ)). get_or l 0 x) e
-
-pair_is : (i q a b : ℕ) → (eqb a i && eqb b q) ≡ true → holding a b ≡ holding i q
-pair_is i q a b h = let t = and_parts (eqb a i) (eqb b q) h in let e = eqb-true a i t.0 in let g = eqb-true b q t.1 in λ k. (e k, g k) ∷ []
 
 -- where a listed put stands
 listed_at : (puts : List (ℕ × ℕ)) (i q : ℕ) → is_listed i q puts ≡ true → (k : ℕ) × (get_elem? puts k ≡ some (i, q))

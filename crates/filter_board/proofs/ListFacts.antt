@@ -1,14 +1,13 @@
 -- Lists that grow, and pipes by their numbers.
-use Rattle.std.proofs.Common.{◌≡◌, ◌↔◌, ℕ, zero, suc, ◌+◌, ◌<◌, List, [], ◌∷◌, ◌++◌, length, get_or, drop, Bool, true, false, ◌&&◌, ◌||◌, cond, eqb, eq-eqb, sym, refl, ap, ◌∙◌, subst, arith}
+use Rattle.std.proofs.Common.{◌≡◌, ◌↔◌, ℕ, zero, suc, ◌+◌, ◌<◌, List, [], ◌∷◌, ◌++◌, length, get_or, drop, Bool, true, ◌&&◌, ◌||◌, eqb, eq-eqb, refl, ◌∙◌, subst, arith}
 use Rattle.std.specs.List.{list_all, list_any}
 use Rattle.std.proofs.lemmas.Bool.{eqb-true}
-use mathlib.Core.Option.{some, some-injective, some-ne-none}
 use lib.ListN.{get_elem?}
+use Rattle.rpt_base.proofs.ListFacts.{any_from, all_from}
 use Rattle.transfer_core.specs.declared.plan.Pipe.{Pipe}
 use Rattle.transfer_core.specs.declared.plan.Port.{Port}
 use Rattle.transfer_core.specs.Actors.{is_marked}
-use Rattle.transfer_core.specs.Job.{writer, writes_region}
-use Rattle.transfer_core.proofs.Lists.{at_index, drop_at}
+use Rattle.transfer_core.specs.Job.{writer}
 use Rattle.transfer_core.proofs.ValidFacts.{all_at, any_at}
 
 -- what holds of each member, and of one more that is pushed
@@ -19,12 +18,6 @@ each_pushed P (y ∷ ys) x d h e zero less = h 0 (omega arith)
 each_pushed P (y ∷ ys) x d h e (suc r) less = each_pushed (λ k. P (suc k)) ys x d (λ k l. h (suc k) (omega arith)) e r (omega arith)
 
 -- ---- the pipe that writes a region
-pub writer_here : (pipes : List Pipe) (i r : ℕ) (x : Pipe) → i < length pipes → x ≡ get_or pipes i x → writes_region r x.writes ≡ true → writer (drop i pipes) r ≡ 0
-writer_here pipes i r x l e h = ap (λ (xs : List Pipe). writer xs r) (drop_at pipes i x (at_index pipes i x l e)) ∙ ap (λ b. cond b 0 (suc (writer (drop (suc i) pipes) r))) h
-
-pub writer_next : (pipes : List Pipe) (i r : ℕ) (x : Pipe) → i < length pipes → x ≡ get_or pipes i x → writes_region r x.writes ≡ false → writer (drop i pipes) r ≡ 1 + writer (drop (i + 1) pipes) r
-writer_next pipes i r x l e h = ap (λ (xs : List Pipe). writer xs r) (drop_at pipes i x (at_index pipes i x l e)) ∙ ap (λ b. cond b 0 (suc (writer (drop (suc i) pipes) r))) h
-    ∙ omega (arith, ap (λ (n : ℕ). writer (drop n pipes) r) (let t : suc i ≡ i + 1 = omega arith in t))
 
 pub writer_past : (pipes : List Pipe) (i r : ℕ) → length pipes < i + 1 → writer (drop i pipes) r ≡ 0
 writer_past [] zero r l = refl
@@ -33,18 +26,6 @@ writer_past (x ∷ xs) zero r l = absurd (omega arith)
 writer_past (x ∷ xs) (suc i) r l = writer_past xs i r (omega arith)
 
 -- ---- which pipes these ports read from
-all_from : {A : Type 0} (f : A → Bool) (xs : List A) → ((i : ℕ) (a : A) → get_elem? xs i ≡ some a → f a ≡ true) → list_all f xs ≡ true
-all_from f [] h = refl
-all_from f (x ∷ xs) h = λ k. h 0 x refl k && all_from f xs (λ i a e. h (suc i) a e) k
-
-any_from : {A : Type 0} (f : A → Bool) (xs : List A) (i : ℕ) (a : A) → get_elem? xs i ≡ some a → f a ≡ true → list_any f xs ≡ true
-any_from f [] i a e h = absurd (some-ne-none a (sym e))
-any_from f (x ∷ xs) zero a e h = λ k. (ap f (some-injective x a e) ∙ h) k || list_any f xs
-any_from f (x ∷ xs) (suc i) a e h = or_yes (f x) (any_from f xs i a e h)
-  where
-    or_yes : (b : Bool) {c : Bool} → c ≡ true → (b || c) ≡ true
-    or_yes true g = refl
-    or_yes false g = g
 
 -- the writers of all ports are marked exactly where each pipe is that one of the ports reads from
 pub writers_marked : (marks : List Bool) (pipes : List Pipe) (reads : List Port)

@@ -2,7 +2,7 @@
 use Rattle.std.proofs.Common.{◌≡◌, ℕ, zero, suc, ◌<◌, List, [], ◌∷◌, length, get_or, Bool, true, false, ◌||◌, refl, sym, ap, ◌∙◌, arith}
 use Rattle.std.specs.Prelude.{bit_or}
 use Rattle.std.specs.Int.Bits.{or_zero_r}
-use Rattle.std.proofs.lemmas.Nat.Bits.{bit_at_or, same_from_bits}
+use Rattle.rpt_base.proofs.NumberFacts.{or_assoc}
 use Rattle.transfer_core.specs.Actors.{is_marked}
 use Rattle.filter_board.specs.Runs.{with_masks}
 use Rattle.filter_board.specs.Shares.{either}
@@ -31,8 +31,6 @@ either_is (x ∷ xs) [] (z ∷ zs) e f h = absurd (omega arith)
 either_is (x ∷ xs) (y ∷ ys) (z ∷ zs) e f h = λ i. h 0 (omega arith) i ∷ either_is xs ys zs (omega arith) (omega arith) (λ k l. h (suc k) (omega arith)) i
 
 -- ---- masks that are or'd into a number
-or_assoc : (a b c : ℕ) → bit_or (bit_or a b) c ≡ bit_or a (bit_or b c)
-or_assoc a b c = same_from_bits _ _ (λ i. omega (arith, bit_at_or (bit_or a b) c i, bit_at_or a b i, bit_at_or a (bit_or b c) i, bit_at_or b c i))
 
 or_first : (mask : ℕ → ℕ) (a b : ℕ) (items : List ℕ) → with_masks mask (bit_or a b) items ≡ bit_or a (with_masks mask b items)
 or_first mask a b [] = refl

@@ -2,11 +2,12 @@
 use Rattle.std.proofs.Common.{◌≡◌, ℕ, zero, suc, ◌+◌, ◌<◌, ◌≤◌, true, false, ◌⊎◌, List, [], ◌∷◌, length, refl, sym, ap, subst, inl, inr, arith}
 use Rattle.std.proofs.lemmas.Bool.{both_ways, cases_Bool, cases_lt}
 use Rattle.join_graph.specs.declared.tree.Link.{Link}
-use Rattle.join_graph.specs.JoinList.{has, listed_by, Extends, HasParents}
+use Rattle.join_graph.specs.JoinList.{listed_by, Extends, HasParents}
+use Rattle.rpt_base.specs.Lists.{has}
 use Rattle.join_graph.specs.Weights.{total, IsBest}
 use Rattle.join_graph.proofs.BestOf.{HasBest, best-below}
 use Rattle.join_graph.proofs.ListFacts.{only-more, only-root}
-use Rattle.join_graph.proofs.MemberFacts.{has-head}
+use Rattle.rpt_base.proofs.MemberFacts.{has-head}
 use Rattle.join_graph.proofs.Unlisted.{unlisted, unlisted-less}
 
 -- links that list the rest of n relations

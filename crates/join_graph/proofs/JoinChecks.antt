@@ -5,7 +5,8 @@ use Rattle.std.specs.List.Sorted.{IsStrictlyIncreasing}
 use Rattle.std.proofs.lemmas.Bool.{eqb-true, both_ways, and_parts, or_cases, not-true, ltb-true, leb-true, cases_order}
 use Rattle.std.proofs.lemmas.List.Elements.{All-nil, All-cons}
 use Rattle.join_graph.specs.declared.tree.Link.{Link}
-use Rattle.join_graph.specs.JoinList.{has, vars_of, listed_by, is_met, Extends, HasParents, Runs, IsGraph, IsJoinList}
+use Rattle.join_graph.specs.JoinList.{vars_of, listed_by, is_met, Extends, HasParents, Runs, IsGraph, IsJoinList}
+use Rattle.rpt_base.specs.Lists.{has}
 use Rattle.join_graph.proofs.SumFacts.{up}
 
 -- the numbers rise strictly

@@ -2,7 +2,6 @@ mod BestFacts
 pub mod BestOf
 pub mod JoinChecks
 pub mod ListFacts
-pub mod MemberFacts
 pub mod NeededFacts
 mod NeededSteps
 mod StoredFacts

@@ -1,14 +1,15 @@
 -- Lists of relations with parents, piece by piece.
-use Rattle.std.proofs.Common.{◌≡◌, ℕ, ◌+◌, ◌-◌, ◌^◌, ◌<◌, Bool, true, false, List, [], ◌∷◌, ◌++◌, refl, sym, ap, ◌∙◌, subst, inl, inr, eqb, arith}
-use Rattle.std.specs.List.{All, sum_by}
-use Rattle.std.proofs.lemmas.Bool.{eqb-true, both_ways, or_cases, lt-ltb, le-ltb, ltb-true, cases_Bool, cases_lt, eq-eqb, ne_eqb}
+use Rattle.std.proofs.Common.{◌≡◌, ℕ, ◌+◌, ◌-◌, ◌^◌, ◌<◌, true, false, List, [], ◌∷◌, ◌++◌, refl, sym, ap, ◌∙◌, ◌||◌, map, subst, inl, inr, eqb, arith}
+use Rattle.std.specs.List.{All, list_any, sum_by}
+use Rattle.std.proofs.lemmas.Bool.{eqb-true, both_ways, or_cases, lt-ltb, le-ltb, ltb-true, cases_lt, eq-eqb, ne_eqb}
 use Rattle.std.proofs.lemmas.List.Sums.{sum_by-cons}
 use Rattle.std.proofs.lemmas.List.Elements.{All-nil, All-cons}
 use Rattle.std.proofs.lemmas.Nat.Bits.{bit_at_above, bit_at_ones, bit_at_ones_above}
 use Rattle.join_graph.specs.declared.tree.Link.{Link}
-use Rattle.join_graph.specs.JoinList.{has, set_of, everyone, listed_by, Extends, HasParents, IsSetOf}
+use Rattle.join_graph.specs.JoinList.{set_of, everyone, listed_by, Extends, HasParents, IsSetOf}
+use Rattle.rpt_base.specs.Lists.{has}
 use Rattle.join_graph.specs.Weights.{total}
-use Rattle.join_graph.proofs.MemberFacts.{has-kept}
+use Rattle.rpt_base.proofs.MemberFacts.{has-kept}
 
 pub total-append : (w : ℕ → ℕ → ℕ) (xs ys : List Link) → total w (xs ++ ys) ≡ total w xs + total w ys
 total-append w [] ys = omega arith
@@ -53,10 +54,6 @@ pub only-more : (P : ℕ → Type 0) (c : ℕ) (listed : List ℕ) → P c → (
     → has r (c ∷ listed) ≡ true → P r
 only-more P c listed h rest r k = elim (or_cases (eqb r c) (has r listed) k) [ inl e ↦ subst P (sym (eqb-true r c e)) h | inr o ↦ rest r o ]
 
-pub same_truth : (a b : Bool) → (a ≡ true → b ≡ true) → (b ≡ true → a ≡ true) → a ≡ b
-same_truth true b h k = sym (h refl)
-same_truth false b h k = elim (cases_Bool b) [ inl t ↦ k t ∙ sym t | inr f ↦ sym f ]
-
 pub everyone-below : (n r : ℕ) → everyone n r ≡ true → r < n
 everyone-below n r h = ltb-true r n h
 
@@ -96,3 +93,7 @@ extends-within n listed (l ∷ ls) known h =
 
 pub parents-within : (n root : ℕ) (ls : List Link) → HasParents n root ls → AreWithin n ls
 parents-within n root ls h = extends-within n (root ∷ []) ls (only-root (λ z. z < n) root h.first) h.extends
+
+pub has-children : (r : ℕ) (links : List Link) → list_any (λ l. eqb r l.child) links ≡ has r (map (λ (l : Link). l.child) links)
+has-children r [] = refl
+has-children r (l ∷ links) = ap (λ b. eqb r l.child || b) (has-children r links)

@@ -8,11 +8,13 @@ use Rattle.std.specs.List.{filter, count_by, list_any, concat}
 use Rattle.std.specs.Set.{unique_keys}
 use Rattle.std.proofs.lemmas.Bool.{eqb-true, both_ways, cases_Bool, or_cases, or_parts, or_left, or_right, and_from, lt-ltb, ltb-true}
 use Rattle.join_graph.specs.declared.tree.Link.{Link}
-use Rattle.join_graph.specs.JoinList.{has, vars_of, listed_by, Extends, HasParents, is_met, Runs}
+use Rattle.join_graph.specs.JoinList.{vars_of, listed_by, Extends, HasParents, is_met, Runs}
+use Rattle.rpt_base.specs.Lists.{has}
 use Rattle.join_graph.specs.Weights.{weight_of, holders, variables, needed_of, total}
 use Rattle.join_graph.proofs.SumFacts.{up, Distinct, add, add-is, add-agree, add-plus, add-ones, add-filter, has-filter, Distinct-filter, add-same, has-up, Distinct-up, add-up}
-use Rattle.join_graph.proofs.MemberFacts.{has-head, has-other, has-kept}
-use Rattle.join_graph.proofs.ListFacts.{extends-below, only-root, same_truth}
+use Rattle.rpt_base.proofs.MemberFacts.{has-head, has-other, has-kept, has-append}
+use Rattle.join_graph.proofs.ListFacts.{extends-below, only-root}
+use Rattle.rpt_base.proofs.BoolFacts.{same_truth}
 
 -- filters of one list by two tests
 pub filter-le : (p q : ℕ → Bool) (xs : List ℕ) → ((v : ℕ) → has v xs ≡ true → p v ≡ true → q v ≡ true)
@@ -202,10 +204,6 @@ Distinct-unique (y ∷ ys) =
           let off' : list_any (λ z. eqb y z) ys ≡ false = any-has y ys ∙ off in
           rw off' (has-unique y ys ∙ off, Distinct-unique ys)
     ]
-
-has-append : (x : ℕ) (xs ys : List ℕ) → has x (xs ++ ys) ≡ (has x xs || has x ys)
-has-append x [] ys = refl
-has-append x (z ∷ xs) ys = elim (eqb x z) as (λ b. (b || has x (xs ++ ys)) ≡ ((b || has x xs) || has x ys)) [ true ↦ refl | false ↦ has-append x xs ys ]
 
 pub has-concat : (vs : List (List ℕ)) (r v : ℕ) → has v (vars_of vs r) ≡ true → has v (concat vs) ≡ true
 has-concat [] r v h = absurd (both_ways false refl h)

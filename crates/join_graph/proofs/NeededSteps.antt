@@ -4,7 +4,9 @@ use Rattle.std.specs.List.{filter, list_any, concat}
 use Rattle.std.proofs.lemmas.List.{take-map}
 use Rattle.std.proofs.lemmas.List.Sums.{length-filter, count_by-le-length}
 use Rattle.std.proofs.lemmas.List.Folds.{list_any_more}
-use Rattle.join_graph.specs.JoinList.{has, vars_of, is_met, IsGraph}
+use Rattle.join_graph.specs.JoinList.{vars_of, is_met, IsGraph}
+use Rattle.rpt_base.specs.Lists.{has}
+use Rattle.rpt_base.proofs.FilterFacts.{filter-agree}
 use Rattle.join_graph.specs.Weights.{variables, needed_of}
 use Rattle.join_graph.proofs.SumFacts.{up, Distinct-up, has-up}
 use Rattle.join_graph.proofs.NeededFacts.{surplus, surplus-more, surplus-needed, has-unique, has-concat, Distinct-unique}
@@ -27,10 +29,6 @@ met-up vs (suc i) v h =
     ∙ or-comm (has v (vars_of vs i)) (list_any (has v) (take i vs))
     ∙ sym (list_any_more (has v) vs i [] (omega arith))
     ∙ ap (λ k. list_any (has v) (take k vs)) (add-one i)
-
-filter-agree : (p q : ℕ → Bool) (xs : List ℕ) → ((v : ℕ) → p v ≡ q v) → filter p xs ≡ filter q xs
-filter-agree p q [] h = refl
-filter-agree p q (x ∷ xs) h = rw (h x, filter-agree p q xs h) refl
 
 list_any-map : {V : Type 0} (p : List ℕ → Bool) (items : V → List ℕ) (sets : List V)
     → list_any p (map items sets) ≡ list_any (λ s. p (items s)) sets

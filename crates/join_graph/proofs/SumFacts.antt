@@ -3,8 +3,8 @@ use Rattle.std.proofs.Common.{◌≡◌, ℕ, zero, suc, ◌+◌, ◌<◌, ◌�
 use Rattle.std.specs.List.{filter, sum_by}
 use Rattle.std.proofs.lemmas.Bool.{eqb-true, eqb-false, both_ways, cases_Bool, lt-ltb, le-ltb, ltb-true, cases_order}
 use Rattle.std.proofs.lemmas.List.Sums.{sum_by-cons, sum_by_more}
-use Rattle.join_graph.specs.JoinList.{has}
-use Rattle.join_graph.proofs.MemberFacts.{has-new, has-head, has-other, has-still, has-differs, eqb-flip}
+use Rattle.rpt_base.specs.Lists.{has}
+use Rattle.rpt_base.proofs.MemberFacts.{has-new, has-head, has-other, has-still, has-differs, eqb-flip}
 
 -- the numbers below n, the greatest first
 abbrev pub up : ℕ → List ℕ

@@ -2,8 +2,8 @@
 use Rattle.std.proofs.Common.{◌≡◌, ℕ, ◌<◌, Bool, true, false, not, cond, ◌⊎◌, List, [], ◌∷◌, length, refl, sym, ap, ◌∙◌, inl, inr, eqb, arith}
 use Rattle.std.specs.List.{filter}
 use Rattle.std.proofs.lemmas.Bool.{both_ways, cases_Bool, or_cases, not-true, not_from_false, not_from_true, eqb-true, lt-ltb}
-use Rattle.join_graph.specs.JoinList.{has}
-use Rattle.join_graph.proofs.MemberFacts.{has-head, has-kept}
+use Rattle.rpt_base.specs.Lists.{has}
+use Rattle.rpt_base.proofs.MemberFacts.{has-head, has-kept}
 use Rattle.join_graph.proofs.NeededFacts.{filter-le}
 use Rattle.join_graph.proofs.SumFacts.{up, has-up}
 

@@ -6,7 +6,8 @@ use Rattle.std.proofs.lemmas.Bool.{ne_eqb, cases_lt, or_from}
 use Rattle.std.proofs.lemmas.List.Sums.{get_or-le-sum_by, length-filter, count_by-le-length}
 use Rattle.std.proofs.lemmas.List.{get_or_past}
 use Rattle.std.proofs.lemmas.List.Kept.{AllPairs-from_increasing}
-use Rattle.join_graph.specs.JoinList.{has, AreRising, vars_of}
+use Rattle.join_graph.specs.JoinList.{AreRising, vars_of}
+use Rattle.rpt_base.specs.Lists.{has}
 use Rattle.join_graph.specs.Weights.{weight_of, total, IsBest}
 use Rattle.join_graph.proofs.SumFacts.{Distinct, add-ones, add-same, has-filter, Distinct-filter}
 

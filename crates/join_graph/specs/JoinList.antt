@@ -1,15 +1,13 @@
 -- Sets of relations, lists of relations with parents, and join lists.
-use Rattle.std.specs.Prelude.{◌≡◌, ℕ, ◌<◌, ◌≤◌, Bool, true, false, ◌==◌, nat_lt, List, [], ◌∷◌, ◌++◌, length, slice_index_or}
+use Rattle.std.specs.Prelude.{◌≡◌, ℕ, ◌<◌, ◌≤◌, Bool, true, false, ◌==◌, nat_lt}
+use Rattle.std.specs.Prelude.{List, [], ◌∷◌, ◌++◌, length, slice_index_or}
 use Rattle.std.specs.Int.{bit_at}
 use Rattle.std.specs.List.{All, list_any}
 use Rattle.std.specs.List.Sorted.{IsStrictlyIncreasing}
+use Rattle.rpt_base.specs.Lists.{has}
 use Rattle.rpt_base.specs.declared.limits.TheConstants.{MAX_COLUMNS, MAX_RELATIONS}
 use Rattle.rpt_base.specs.declared.sets.RelSet.{RelSet}
 use Rattle.join_graph.specs.declared.tree.Link.{Link}
-
--- x is one of xs
-abbrev pub has : ℕ → List ℕ → Bool
-has x xs = list_any (λ y. x == y) xs
 
 -- a relation is in the set
 abbrev pub set_of : RelSet → ℕ → Bool
@@ -43,6 +41,10 @@ pub record IsGraph (vs : List (List ℕ)) : Type 0 where
 abbrev pub vars_of : List (List ℕ) → ℕ → List ℕ
 vars_of vs r = slice_index_or vs r []
 
+-- relation r has the variable v
+abbrev pub has_variable : List (List ℕ) → ℕ → ℕ → Bool
+has_variable vs v r = has v (vars_of vs r)
+
 -- what is listed once the links are, the last one first
 abbrev pub listed_by : List ℕ → List Link → List ℕ
 listed_by listed [] = listed
@@ -62,7 +64,7 @@ pub record HasParents (n root : ℕ) (links : List Link) : Type 0 where
 
 -- one of the listed relations has the variable
 abbrev pub is_met : List (List ℕ) → List ℕ → ℕ → Bool
-is_met vs listed v = list_any (λ r. has v (vars_of vs r)) listed
+is_met vs listed v = list_any (has_variable vs v) listed
 
 -- running intersection: the variables that a child shares with any relation listed before it lie in its parent
 abbrev pub Runs : List (List ℕ) → List ℕ → List Link → Type 0

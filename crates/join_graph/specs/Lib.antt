@@ -1,3 +1,4 @@
 pub mod JoinList
 pub mod SafeSet
+pub mod Shared
 pub mod Weights

@@ -3,7 +3,8 @@ use Rattle.std.specs.Prelude.{◌≡◌, ℕ, ◌+◌, ◌-◌, ◌≤◌, ◌==
 use Rattle.std.specs.List.{concat, filter}
 use Rattle.std.specs.Set.{unique_keys}
 use Rattle.join_graph.specs.declared.tree.Link.{Link}
-use Rattle.join_graph.specs.JoinList.{has, vars_of, HasParents}
+use Rattle.join_graph.specs.JoinList.{vars_of, HasParents}
+use Rattle.rpt_base.specs.Lists.{has}
 
 -- the variables that i and j both have, in i's order
 abbrev pub shared_of : List (List ℕ) → ℕ → ℕ → List ℕ

@@ -1,7 +1,7 @@
 // Lists of variables side by side.
 ghost use Rattle.std.specs.Prelude.{◌≡◌, ◌≤◌, IfOk, length, map};
 ghost use Rattle.std.specs.List.{filter, list_any};
-ghost use Rattle.join_graph.specs.JoinList.{has};
+ghost use Rattle.rpt_base.specs.Lists.{has};
 
 use rpt_base::Memory;
 use std::alloc::Global;
@@ -38,11 +38,8 @@ pub(crate) fn list_shared(alloc: Global, of: &[u32], with: &[u32]) -> Result<Vec
         .iter()
         .filter(|variable| is_member(with, **variable))
         .copied()
-        .collect(alloc);
-    match shared {
-        Ok(shared) => Ok(shared),
-        Err(_) => Err(Memory),
-    }
+        .collect(alloc)?;
+    Ok(shared)
 }
 
 /// How many of a relation's variables one of the sets has.
@@ -59,10 +56,8 @@ pub(crate) fn count_met(sets: &[Vec<u32>], of: &[u32]) -> usize
 fn copied(alloc: Global, variables: &[u32]) -> Result<Vec<u32>, Memory>
     ensures { IfOk result (λ copy. copy.items ≡ variables.now) }
 {
-    match variables.iter().copied().collect(alloc) {
-        Ok(copy) => Ok(copy),
-        Err(_) => Err(Memory),
-    }
+    let copy = variables.iter().copied().collect(alloc)?;
+    Ok(copy)
 }
 
 /// The same sets once more.
@@ -71,9 +66,7 @@ pub(crate) fn copy_sets(alloc: Global, sets: &[Vec<u32>]) -> Result<Vec<Vec<u32>
 {
     let mut copies = Vec::new(alloc);
     for set in sets {
-        if copies.push(copied(alloc, set)?).is_err() {
-            return Err(Memory);
-        }
+        copies.push(copied(alloc, set)?)?;
     }
     Ok(copies)
 }

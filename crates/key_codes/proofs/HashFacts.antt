@@ -4,7 +4,8 @@ use Rattle.std.proofs.lemmas.Grind.{flat_map-append}
 use Rattle.std.proofs.lemmas.List.{append-nil, get_or-map, length-map, take_more}
 use Rattle.rpt_base.specs.declared.values.Value.{Value}
 use Rattle.key_codes.specs.Hashes.{fnv_from, key_bytes, value_bytes, with_byte}
-use Rattle.key_codes.specs.Keys.{item_key, item_value, value_in}
+use Rattle.key_codes.specs.Keys.{item_key, item_value}
+use Rattle.column_table.specs.Table.{value_at}
 use Rattle.key_codes.specs.declared.keys.KeyRows.{KeyRows}
 
 pub fnv-append : (hash : ℕ) (xs ys : List ℕ) → fnv_from hash (xs ++ ys) ≡ fnv_from (fnv_from hash xs) ys
@@ -17,7 +18,7 @@ pub key-more : (hash : ℕ) (keys : KeyRows) (item place : ℕ) → place < leng
     ≡ fnv_from (fnv_from hash (key_bytes (take place (item_key keys item)))) (value_bytes (item_value keys item place))
 key-more hash keys item place lt =
     let columns = keys.columns.now in
-    let at : ℕ → Value = value_in keys.table.now (get_or keys.rows.now item 0) in
+    let at : ℕ → Value = value_at keys.table.now (get_or keys.rows.now item 0) in
     let key : List Value = item_key keys item in
     let front : List Value = take place key in
     let value : Value = item_value keys item place in

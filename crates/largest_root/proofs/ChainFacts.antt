@@ -3,7 +3,8 @@ use Rattle.std.proofs.Common.{◌≡◌, ℕ, ◌<◌, ◌≤◌, Bool, true, Li
 use Rattle.join_graph.specs.declared.tree.Link.{Link}
 use Rattle.join_graph.specs.declared.tree.Tree.{Tree}
 use Rattle.rpt_base.specs.declared.sets.RelSet.{RelSet}
-use Rattle.join_graph.specs.JoinList.{has, listed_by, set_of, IsAll, IsSetOf}
+use Rattle.join_graph.specs.JoinList.{listed_by, set_of, IsAll, IsSetOf}
+use Rattle.rpt_base.specs.Lists.{has}
 use Rattle.join_graph.specs.Weights.{weight_of}
 use Rattle.largest_root.specs.Greedy.{Greedy, IsLargest, IsGreedyList, IsChain, IsGrown}
 use Rattle.largest_root.proofs.GreatestFacts.{greedy-within}

@@ -8,9 +8,10 @@
 use Rattle.std.proofs.Common.{◌≡◌, ℕ, ◌+◌, ◌≤◌, min, Bool, true, false, cond, ◌||◌, List, [], ◌∷◌, refl, sym, ap, ◌∙◌, subst, inl, inr, eqb, arith}
 use Rattle.std.proofs.lemmas.Bool.{eqb-true, ne_eqb, both_ways, cases_Bool, or_cases, false_from_ne_true}
 use Rattle.join_graph.specs.declared.tree.Link.{Link}
-use Rattle.join_graph.specs.JoinList.{has, listed_by}
+use Rattle.join_graph.specs.JoinList.{listed_by}
+use Rattle.rpt_base.specs.Lists.{has}
 use Rattle.join_graph.specs.Weights.{total}
-use Rattle.join_graph.proofs.MemberFacts.{has-kept, has-head, has-other, has-still, has-apart, eqb-flip}
+use Rattle.rpt_base.proofs.MemberFacts.{has-kept, has-head, has-other, has-still, has-apart, eqb-flip}
 
 module _ (w : ℕ → ℕ → ℕ) (set : ℕ → Bool) where
   -- what the exchange uses of the greedy links: each one's weight is greatest among the open pairs

@@ -2,12 +2,14 @@
 use Rattle.std.proofs.Common.{◌≡◌, ℕ, ◌+◌, ◌<◌, ◌≤◌, Bool, true, List, [], ◌∷◌, ◌++◌, refl, sym, ap, ◌∙◌, subst, inl, inr, eqb, arith}
 use Rattle.std.proofs.lemmas.Bool.{eqb-true, or_cases, lt-ltb}
 use Rattle.join_graph.specs.declared.tree.Link.{Link}
-use Rattle.join_graph.specs.JoinList.{has, listed_by, Extends, HasParents, BeginsWith, everyone}
+use Rattle.join_graph.specs.JoinList.{listed_by, Extends, HasParents, BeginsWith, everyone}
+use Rattle.rpt_base.specs.Lists.{has}
 use Rattle.join_graph.specs.Weights.{total, IsBest}
 use Rattle.largest_root.specs.Greedy.{NotBefore, Greedy, IsGreedyList}
-use Rattle.join_graph.proofs.MemberFacts.{has-head}
+use Rattle.rpt_base.proofs.MemberFacts.{has-head}
 use Rattle.largest_root.proofs.ExchangeFacts.{Steep, Grows, steepest, steepest_from}
-use Rattle.join_graph.proofs.ListFacts.{total-append, append-nil, listed_by-append, listed_by-kept, extends-front, extends-back, extends-join, extends-below, only-root, same_truth, everyone-below}
+use Rattle.join_graph.proofs.ListFacts.{total-append, append-nil, listed_by-append, listed_by-kept, extends-front, extends-back, extends-join, extends-below, only-root, everyone-below}
+use Rattle.rpt_base.proofs.BoolFacts.{same_truth}
 
 grows_from_extends : (n : ℕ) (listed : List ℕ) (ls : List Link) → Extends n listed ls → Grows (everyone n) listed ls
 grows_from_extends n listed [] h = tt

@@ -3,7 +3,7 @@ use Rattle.std.proofs.Common.{◌≡◌, ℕ, ◌<◌, Bool, true, false, not, �
 use Rattle.std.specs.List.{list_all}
 use Rattle.std.proofs.lemmas.Bool.{eqb-true, and_parts, or_cases, not-true, ltb-true, leb-true}
 use Rattle.join_graph.specs.declared.tree.Link.{Link}
-use Rattle.join_graph.specs.JoinList.{has}
+use Rattle.rpt_base.specs.Lists.{has}
 use Rattle.join_graph.proofs.JoinChecks.{not-or, all-up}
 use Rattle.join_graph.proofs.ListFacts.{only-more}
 use Rattle.join_graph.proofs.SumFacts.{up}

@@ -1,7 +1,8 @@
 -- The steps of the growth over one set.
 use Rattle.std.proofs.Common.{◌≡◌, ℕ, ◌<◌, Bool, true, false, List, [], ◌∷◌, ◌++◌, length, slice_index, sym, ap, ◌∙◌, subst}
 use Rattle.join_graph.specs.declared.tree.Link.{Link}
-use Rattle.join_graph.specs.JoinList.{has, listed_by}
+use Rattle.join_graph.specs.JoinList.{listed_by}
+use Rattle.rpt_base.specs.Lists.{has}
 use Rattle.largest_root.specs.Greedy.{NotBefore, Greedy}
 use Rattle.join_graph.proofs.ListFacts.{listed_by-append, only-more}
 use Rattle.join_graph.proofs.Unlisted.{unlisted, unlisted-less}

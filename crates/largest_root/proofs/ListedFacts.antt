@@ -3,7 +3,8 @@ use Rattle.std.proofs.Common.{◌≡◌, ℕ, ◌<◌, ◌≤◌, Bool, true, fa
 use Rattle.std.specs.List.{list_any}
 use Rattle.std.proofs.lemmas.Bool.{or_left, eq-eqb, ne_eqb}
 use Rattle.join_graph.specs.declared.tree.Link.{Link}
-use Rattle.join_graph.specs.JoinList.{has, listed_by}
+use Rattle.join_graph.specs.JoinList.{listed_by}
+use Rattle.rpt_base.specs.Lists.{has}
 use Rattle.largest_root.specs.Greedy.{NotBefore}
 
 swap-or : (a b c : Bool) → ((a || b) || c) ≡ (b || (a || c))

@@ -5,7 +5,8 @@ use Rattle.rpt_base.specs.declared.sets.RelSet.{RelSet}
 use Rattle.join_graph.specs.declared.tree.Tree.{Tree}
 use Rattle.join_graph.specs.Weights.{weight_of}
 use Rattle.join_graph.specs.declared.tree.Link.{Link}
-use Rattle.join_graph.specs.JoinList.{has, set_of, everyone, listed_by}
+use Rattle.join_graph.specs.JoinList.{set_of, everyone, listed_by}
+use Rattle.rpt_base.specs.Lists.{has}
 use Rattle.largest_root.specs.Greedy.{NotBefore, Greedy, GreedyChain, IsGreedyList, IsGrown, IsLargest, IsLargestRoot}
 
 module _ (w : ℕ → ℕ → ℕ) (size : ℕ → ℕ) where

@@ -2,10 +2,11 @@
 use Rattle.std.proofs.Common.{◌≡◌, ℕ, zero, suc, ◌<◌, ◌≤◌, Bool, true, false, ◌⊎◌, List, [], ◌∷◌, ◌++◌, length, refl, sym, ap, ◌∙◌, subst, inl, inr, arith}
 use Rattle.std.proofs.lemmas.Bool.{both_ways, cases_Bool, cases_order}
 use Rattle.join_graph.specs.declared.tree.Link.{Link}
-use Rattle.join_graph.specs.JoinList.{has, listed_by}
+use Rattle.join_graph.specs.JoinList.{listed_by}
+use Rattle.rpt_base.specs.Lists.{has}
 use Rattle.join_graph.proofs.BestOf.{HasBest, best-below}
 use Rattle.join_graph.proofs.ListFacts.{extends-below, listed_by-kept, only-more, only-root}
-use Rattle.join_graph.proofs.MemberFacts.{has-head}
+use Rattle.rpt_base.proofs.MemberFacts.{has-head}
 use Rattle.join_graph.proofs.Unlisted.{unlisted, unlisted-less}
 use Rattle.largest_root.specs.Greedy.{NotBefore, Greedy, GreedyChain, IsGreedyList, IsLargest}
 use Rattle.largest_root.proofs.GreatestFacts.{extends_from_greedy}

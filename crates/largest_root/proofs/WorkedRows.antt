@@ -1,5 +1,6 @@
 -- Graphs worked by hand: their greedy lists, and a graph that has no join list at all.
 use Rattle.std.proofs.Common.{◌≡◌, ℕ, ◌<◌, true, List, [], ◌∷◌, get_or, refl, inr, arith}
+use Rattle.rpt_base.proofs.NumberFacts.{differ}
 use Rattle.join_graph.specs.JoinList.{everyone, IsAcyclic}
 use Rattle.join_graph.specs.Weights.{weight_of}
 use Rattle.join_graph.proofs.ListFacts.{everyone-below, only-root}
@@ -24,9 +25,6 @@ triangle-greedy = refl
 -- its greedy list weighs 2 of the 3 that are needed, and so it has no join list
 least-first : IsLargest no_sizes (everyone 3) 0
 least-first = (refl, λ i s. inr (refl, omega arith))
-
-differ : (x y : ℕ) → x < y → x ≡ y → ⊥
-differ x y l e = omega arith
 
 triangle-list : IsGreedyList (weight_of triangle) no_sizes (everyone 3) [] 0 triangle_list
 triangle-list = (

@@ -3,7 +3,8 @@ use Rattle.std.specs.Prelude.{◌≡◌, ℕ, ◌<◌, ◌≤◌, ◌⊎◌, Boo
 use Rattle.rpt_base.specs.declared.sets.RelSet.{RelSet}
 use Rattle.join_graph.specs.declared.tree.Link.{Link}
 use Rattle.join_graph.specs.declared.tree.Tree.{Tree}
-use Rattle.join_graph.specs.JoinList.{has, set_of, everyone, listed_by, BeginsWith, HasParents, IsAcyclic, IsAll, IsJoinList, IsSetOf}
+use Rattle.join_graph.specs.JoinList.{set_of, everyone, listed_by, BeginsWith, HasParents, IsAcyclic, IsAll, IsJoinList, IsSetOf}
+use Rattle.rpt_base.specs.Lists.{has}
 use Rattle.join_graph.specs.Weights.{needed_of, total, weight_of, IsBest}
 use Rattle.largest_root.specs.declared.errors.TreeError.{TreeError}
 use Rattle.largest_root.specs.declared.errors.TreeError.TheVariants.{Cyclic, Memory}
@@ -37,10 +38,13 @@ GreedyChain weight size (set ∷ sets) listed links =
     × Greedy weight size set listed front
     × GreedyChain weight size sets (listed_by listed front) back
 
+-- b is larger than a, or as large and not behind it
+abbrev pub IsLargerOf : (ℕ → ℕ) → ℕ → ℕ → Type 0
+IsLargerOf size a b = (size a < size b) ⊎ ((size a ≡ size b) × (b ≤ a))
+
 -- the largest relation of the set, and the least of them on a tie
 abbrev pub IsLargest : (ℕ → ℕ) → (ℕ → Bool) → ℕ → Type 0
-IsLargest size set root =
-    (set root ≡ true) × ((i : ℕ) → set i ≡ true → (size i < size root) ⊎ ((size i ≡ size root) × (root ≤ i)))
+IsLargest size set root = (set root ≡ true) × ((i : ℕ) → set i ≡ true → IsLargerOf size i root)
 
 -- the greedy list for a chain of sets: the largest relation of the first set, and the greedy links
 abbrev pub IsGreedyList : (ℕ → ℕ → ℕ) → (ℕ → ℕ) → (ℕ → Bool) → List (ℕ → Bool) → ℕ → List Link → Type 0

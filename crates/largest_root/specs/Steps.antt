@@ -1,10 +1,12 @@
 -- What the steps of the growth find.
 -- Words of this crate's own contracts.
-use Rattle.std.specs.Prelude.{◌≡◌, ℕ, ◌<◌, ◌≤◌, ◌⊎◌, Bool, true, false, List, length, slice_index, Option, MatchOption}
+use Rattle.std.specs.Prelude.{◌≡◌, ℕ, ◌<◌, ◌≤◌, ◌⊎◌, Bool, true, false, List, [], ◌∷◌, ◌++◌, length, slice_index, Option, MatchOption}
+use Rattle.rpt_base.specs.declared.sets.RelSet.{RelSet}
 use Rattle.join_graph.specs.declared.tree.Link.{Link}
-use Rattle.join_graph.specs.JoinList.{has}
+use Rattle.join_graph.specs.JoinList.{listed_by, set_of}
+use Rattle.rpt_base.specs.Lists.{has}
 use Rattle.join_graph.specs.Weights.{weight_of}
-use Rattle.largest_root.specs.Greedy.{NotBefore}
+use Rattle.largest_root.specs.Greedy.{Greedy, NotBefore}
 
 -- p is as good a parent of the child as j
 abbrev pub IsParentFor : List (List ℕ) → ℕ → ℕ → ℕ → Type 0
@@ -58,3 +60,13 @@ pub record IsLargestBelow (sizes : List ℕ) (set : ℕ → Bool) (limit root : 
 -- no relation below the limit is in the set
 abbrev pub IsEmptyBelow : (ℕ → Bool) → ℕ → Type 0
 IsEmptyBelow set limit = (i : ℕ) → i < limit → set i ≡ false
+
+-- what is found is the largest relation of the set below n, if it has one there
+abbrev pub FindsLargestBelow : List ℕ → (ℕ → Bool) → ℕ → Option ℕ → Type 0
+FindsLargestBelow sizes set n found = MatchOption found (IsEmptyBelow set n) (λ root. IsLargestBelow sizes set n root)
+
+-- the list with this root goes on with the greedy links over the set
+abbrev pub GrowsOver : List (List ℕ) → List ℕ → RelSet → ℕ → List Link → List Link → Type 0
+GrowsOver vs sizes set root before after =
+    (more : List Link) × (after ≡ before ++ more)
+    × Greedy (weight_of vs) (slice_index sizes) (set_of set) (listed_by (root ∷ []) before) more

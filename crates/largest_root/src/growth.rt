@@ -1,9 +1,10 @@
 // The growth of a list over one set, and over two.
-ghost use Rattle.std.specs.Prelude.{◌≡◌, ℕ, ◌<◌, List, [], ◌∷◌, ◌++◌, true, length, slice_index, IfOk};
+ghost use Rattle.std.specs.Prelude.{◌≡◌, ℕ, ◌<◌, [], ◌∷◌, ◌++◌, true, length, IfOk};
 ghost use Rattle.join_graph.specs.declared.tree.Link.{Link};
-ghost use Rattle.join_graph.specs.JoinList.{IsSetOf, has, listed_by, set_of};
-ghost use Rattle.join_graph.specs.Weights.{weight_of};
-ghost use Rattle.largest_root.specs.Greedy.{Greedy, IsGreedyList};
+ghost use Rattle.join_graph.specs.JoinList.{IsSetOf, listed_by, set_of};
+ghost use Rattle.rpt_base.specs.Lists.{has};
+ghost use Rattle.largest_root.specs.Greedy.{IsGrown};
+ghost use Rattle.largest_root.specs.Steps.{GrowsOver};
 
 use crate::links::best_link;
 use crate::roots::root_of;
@@ -23,12 +24,10 @@ fn grow_set(
     requires root { root < length graph.now }
     requires within { (r : ℕ) → set_of set r ≡ true → r < length graph.now }
     requires known { (r : ℕ) → has r (listed_by (root ∷ []) links.old.items) ≡ true → r < length graph.now }
-    ensures { IfOk result (λ _. (more : List Link) × (links.new.items ≡ links.old.items ++ more) × Greedy (weight_of graph.now) (slice_index sizes.now) (set_of set) (listed_by (root ∷ []) links.old.items) more) }
+    ensures { IfOk result (λ _. GrowsOver graph.now sizes.now set root links.old.items links.new.items) }
 {
     while let Some(link) = best_link(graph, sizes, set, root, links) {
-        if links.push(link).is_err() {
-            return Err(Memory);
-        }
+        links.push(link)?;
     }
     Ok(())
 }
@@ -42,7 +41,7 @@ pub(crate) fn grow_one(
 ) -> Result<Tree, Memory>
     requires sizes { length sizes.now ≡ length graph.now }
     requires some { IsSetOf (length graph.now) set }
-    ensures { IfOk result (λ t. IsGreedyList (weight_of graph.now) (slice_index sizes.now) (set_of set) [] t.root t.links) }
+    ensures { IfOk result (λ t. IsGrown graph.now sizes.now (set ∷ []) t) }
 {
     let root = root_of(graph, sizes, set);
     let mut links = Vec::new(alloc);
@@ -64,7 +63,7 @@ pub(crate) fn grow_two(
     requires sizes { length sizes.now ≡ length graph.now }
     requires first { IsSetOf (length graph.now) first }
     requires then { IsSetOf (length graph.now) then }
-    ensures { IfOk result (λ t. IsGreedyList (weight_of graph.now) (slice_index sizes.now) (set_of first) (set_of then ∷ []) t.root t.links) }
+    ensures { IfOk result (λ t. IsGrown graph.now sizes.now (first ∷ then ∷ []) t) }
 {
     let root = root_of(graph, sizes, first);
     let mut links = Vec::new(alloc);

@@ -1,7 +1,8 @@
 // The parent that a relation is to hang on.
 ghost use Rattle.std.specs.Prelude.{◌≡◌, ◌<◌, ◌⊎◌, ◌==◌, [], ◌∷◌, true, length};
 ghost use Rattle.std.specs.List.{list_any};
-ghost use Rattle.join_graph.specs.JoinList.{has, listed_by, set_of};
+ghost use Rattle.join_graph.specs.JoinList.{listed_by, set_of};
+ghost use Rattle.rpt_base.specs.Lists.{has};
 ghost use Rattle.largest_root.specs.Steps.{IsBestParent, IsParentFor};
 
 use join_graph::{Graph, Link};

@@ -1,8 +1,8 @@
 // The relation that a tree begins with.
-ghost use Rattle.std.specs.Prelude.{◌≡◌, ◌<◌, ◌≤◌, ◌⊎◌, MatchOption, length, slice_index};
+ghost use Rattle.std.specs.Prelude.{◌≡◌, ◌<◌, ◌⊎◌, length, slice_index};
 ghost use Rattle.join_graph.specs.JoinList.{IsSetOf, set_of};
-ghost use Rattle.largest_root.specs.Greedy.{IsLargest};
-ghost use Rattle.largest_root.specs.Steps.{IsEmptyBelow, IsLargestBelow};
+ghost use Rattle.largest_root.specs.Greedy.{IsLargerOf, IsLargest};
+ghost use Rattle.largest_root.specs.Steps.{FindsLargestBelow};
 
 use crate::parents::is_in;
 use join_graph::Graph;
@@ -14,8 +14,8 @@ fn larger(sizes: &[u32], a: u32, b: u32) -> u32
     requires b_in { b < length sizes.now }
     requires order { a < b }
     ensures one { (result ≡ a) ⊎ (result ≡ b) }
-    ensures of_a { (slice_index sizes.now a < slice_index sizes.now result) ⊎ ((slice_index sizes.now a ≡ slice_index sizes.now result) × (result ≤ a)) }
-    ensures of_b { (slice_index sizes.now b < slice_index sizes.now result) ⊎ ((slice_index sizes.now b ≡ slice_index sizes.now result) × (result ≤ b)) }
+    ensures of_a { IsLargerOf (slice_index sizes.now) a result }
+    ensures of_b { IsLargerOf (slice_index sizes.now) b result }
 {
     if sizes[a as usize] < sizes[b as usize] {
         return b;
@@ -26,7 +26,7 @@ fn larger(sizes: &[u32], a: u32, b: u32) -> u32
 // The largest relation of the set, if it has any, and the least of them on a tie.
 fn largest(graph: &Graph, sizes: &[u32], set: RelSet) -> Option<u32>
     requires { length sizes.now ≡ length graph.now }
-    ensures { MatchOption result (IsEmptyBelow (set_of set) (length graph.now)) (λ root. IsLargestBelow sizes.now (set_of set) (length graph.now) root) }
+    ensures { FindsLargestBelow sizes.now (set_of set) (length graph.now) result }
 {
     let mut best: Option<u32> = None;
     for relation in 0..graph.relations() {

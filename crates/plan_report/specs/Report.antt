@@ -1,5 +1,6 @@
 -- The reports of a bound query, line by line.
-use Rattle.std.specs.Prelude.{ℕ, ◌-◌, List, [], ◌∷◌, ◌++◌, Option, None, Some, All, IfSome, codes, length, slice_index, slice_index_or}
+use Rattle.std.specs.Prelude.{ℕ, ◌-◌, List, [], ◌∷◌, ◌++◌, Option, None, Some, All, IfSome}
+use Rattle.std.specs.Prelude.{codes, length, slice_index, slice_index_or}
 use Rattle.std.specs.Fmt.{decimal}
 use Rattle.std.specs.List.{enumerate_from, flat_map, range_with_len}
 use Rattle.rpt_base.specs.declared.filters.FilterKind.{FilterKind}
@@ -32,12 +33,14 @@ abbrev pub alias_of : Query → ℕ → List ℕ
 alias_of q r = slice_index_or q.aliases r []
 
 -- the table of a relation
-abbrev pub table_at : Query → ℕ → Decl
-table_at q r = slice_index_or q.tables (slice_index q.table_of r) (record { name = []; columns = [] })
+abbrev pub declaration_at : Query → ℕ → Decl
+declaration_at q r =
+    slice_index_or q.tables (slice_index q.table_of r) (record { name = []; columns = [] })
 
 -- a column
 abbrev pub column_at : Query → ColumnRef → ColumnDecl
-column_at q c = slice_index_or (table_at q c.relation).columns c.column (record { name = []; kind = kind.Int })
+column_at q c =
+    slice_index_or (declaration_at q c.relation).columns c.column (record { name = []; kind = kind.Int })
 
 -- how many relations there are
 abbrev pub count_line : Query → List ℕ
@@ -53,7 +56,8 @@ rows_text (Some run) r =
 
 -- a relation's name and that of its table, and of a run its rows
 abbrev pub relation_line : Query → Option RunCounts → ℕ → List ℕ
-relation_line q run r = codes "relation " ++ alias_of q r ++ codes " " ++ (table_at q r).name ++ rows_text run r ++ line_end
+relation_line q run r =
+    codes "relation " ++ alias_of q r ++ codes " " ++ (declaration_at q r).name ++ rows_text run r ++ line_end
 
 -- a column, behind a space
 abbrev pub column_text : Query → ColumnRef → List ℕ
@@ -65,7 +69,9 @@ variable_line q columns = codes "variable" ++ flat_map (column_text q) columns +
 
 -- what the tree weighs, and what a join list weighs
 abbrev pub weight_line : List (List ℕ) → Tree → List ℕ
-weight_line sets tree = codes "weight " ++ decimal (total (weight_of sets) tree.links) ++ codes " of " ++ decimal (needed_of sets) ++ line_end
+weight_line sets tree =
+    codes "weight " ++ decimal (total (weight_of sets) tree.links)
+    ++ codes " of " ++ decimal (needed_of sets) ++ line_end
 
 -- a child and its parent, behind a space
 abbrev pub link_text : Query → Link → List ℕ

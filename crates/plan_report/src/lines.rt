@@ -1,9 +1,10 @@
 // The lines of a query's relations and variables, and of its order.
 ghost use Rattle.std.specs.Prelude.{◌≡◌, ◌<◌, ◌++◌, All, IfSome, OnOk, length};
 ghost use Rattle.std.specs.Option.{option_map};
-ghost use Rattle.bound_query.specs.Query.{Names, widths_of};
+ghost use Rattle.bound_query.specs.Query.{IsColumnOf, widths_of};
 ghost use Rattle.column_classes.specs.Variables.{AreQueryVariables};
-ghost use Rattle.plan_report.specs.Report.{count_line, next_text, order_line, relation_line, relation_lines, variable_line, variable_lines};
+ghost use Rattle.plan_report.specs.Report.{count_line, next_text, order_line};
+ghost use Rattle.plan_report.specs.Report.{relation_line, relation_lines, variable_line, variable_lines};
 ghost use Rattle.plan_report.specs.Run.{IsRunOf, run_counts};
 
 use crate::pieces::{put, put_alias, put_column, put_number, table_at};
@@ -27,7 +28,8 @@ pub(crate) fn put_relations(
     run: &Option<RunPart<'_>>,
 ) -> Result<(), Memory>
     requires { IfSome run.now (IsRunOf (length bound.now.query.table_of)) }
-    ensures { OnOk result (out.new.items ≡ out.old.items ++ relation_lines bound.now.query (option_map run_counts run.now)) }
+    ensures { OnOk result (out.new.items ≡ out.old.items
+        ++ relation_lines bound.now.query (option_map run_counts run.now)) }
 {
     for relation in 0..bound.relations() {
         put_relation(out, bound, run, relation)?;
@@ -43,7 +45,8 @@ fn put_relation(
 ) -> Result<(), Memory>
     requires run { IfSome run.now (IsRunOf (length bound.now.query.table_of)) }
     requires relation { relation < length bound.now.query.table_of }
-    ensures { OnOk result (out.new.items ≡ out.old.items ++ relation_line bound.now.query (option_map run_counts run.now) relation) }
+    ensures { OnOk result (out.new.items ≡ out.old.items
+        ++ relation_line bound.now.query (option_map run_counts run.now) relation) }
 {
     put(out, b"relation ")?;
     put_alias(out, bound, relation)?;
@@ -56,7 +59,8 @@ fn put_relation(
 /// A line for each variable.
 pub(crate) fn put_variables(out: &mut Vec<u8>, bound: &Bound) -> Result<(), Memory>
     requires { AreQueryVariables (widths_of bound.now.query) bound.now.query.equalities bound.now.known }
-    ensures { OnOk result (out.new.items ≡ out.old.items ++ variable_lines bound.now.query bound.now.known.variables) }
+    ensures { OnOk result (out.new.items ≡ out.old.items
+        ++ variable_lines bound.now.query bound.now.known.variables) }
 {
     for variable in 0..bound.variables() {
         put_variable(out, bound, bound.columns_of(variable))?;
@@ -65,8 +69,9 @@ pub(crate) fn put_variables(out: &mut Vec<u8>, bound: &Bound) -> Result<(), Memo
 }
 
 fn put_variable(out: &mut Vec<u8>, bound: &Bound, columns: &[ColumnRef]) -> Result<(), Memory>
-    requires { All (Names bound.now.query) columns.now }
-    ensures { OnOk result (out.new.items ≡ out.old.items ++ variable_line bound.now.query columns.now) }
+    requires { All (IsColumnOf bound.now.query) columns.now }
+    ensures { OnOk result (out.new.items ≡ out.old.items
+        ++ variable_line bound.now.query columns.now) }
 {
     put(out, b"variable")?;
     for column in columns {

@@ -1,8 +1,8 @@
 // The pieces of lines, put behind a text.
 ghost use Rattle.std.specs.Prelude.{◌≡◌, ◌<◌, ◌++◌, OnOk, length};
 ghost use Rattle.std.specs.Fmt.{decimal};
-ghost use Rattle.bound_query.specs.Query.{Names};
-ghost use Rattle.plan_report.specs.Report.{alias_of, column_at, column_text, table_at};
+ghost use Rattle.bound_query.specs.Query.{IsColumnOf};
+ghost use Rattle.plan_report.specs.Report.{alias_of, column_at, column_text, declaration_at};
 
 use bound_query::{Bound, ColumnRef};
 use column_table::{ColumnDecl, Decl};
@@ -13,10 +13,8 @@ use rpt_base::Memory;
 pub(crate) fn put(out: &mut Vec<u8>, text: &[u8]) -> Result<(), Memory>
     ensures { OnOk result (out.new.items ≡ out.old.items ++ text.now) }
 {
-    match out.extend_from_slice(text) {
-        Ok(()) => Ok(()),
-        Err(_) => Err(Memory),
-    }
+    out.extend_from_slice(text)?;
+    Ok(())
 }
 
 /// A number in decimal. Its text is written to a buffer on the stack.
@@ -46,14 +44,14 @@ pub(crate) fn put_alias(out: &mut Vec<u8>, bound: &Bound, relation: u32) -> Resu
 /// The table of a relation.
 pub(crate) fn table_at(bound: &Bound, relation: u32) -> &Decl
     requires { relation < length bound.now.query.table_of }
-    ensures { result.now ≡ table_at bound.now.query relation }
+    ensures { result.now ≡ declaration_at bound.now.query relation }
 {
     bound.decl(bound.table_of(relation))
 }
 
 /// A column, behind a space.
 pub(crate) fn put_column(out: &mut Vec<u8>, bound: &Bound, column: ColumnRef) -> Result<(), Memory>
-    requires { Names bound.now.query column }
+    requires { IsColumnOf bound.now.query column }
     ensures { OnOk result (out.new.items ≡ out.old.items ++ column_text bound.now.query column) }
 {
     put(out, b" ")?;
@@ -64,7 +62,7 @@ pub(crate) fn put_column(out: &mut Vec<u8>, bound: &Bound, column: ColumnRef) ->
 
 // A column of the query.
 fn column_at(bound: &Bound, column: ColumnRef) -> &ColumnDecl
-    requires { Names bound.now.query column }
+    requires { IsColumnOf bound.now.query column }
     ensures { result.now ≡ column_at bound.now.query column }
 {
     let table = table_at(bound, column.relation);

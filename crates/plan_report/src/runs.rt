@@ -2,7 +2,8 @@
 ghost use Rattle.std.specs.Prelude.{◌≡◌, ◌<◌, ◌++◌, IfSome, OnOk, Some, slice_index};
 ghost use Rattle.std.specs.Fmt.{decimal};
 ghost use Rattle.std.specs.Option.{option_map};
-ghost use Rattle.plan_report.specs.Report.{answer_line, counts_lines, filter_line, kind_line, kind_text, prefix_counts_lines, rows_text, tuples_line, tuples_lines};
+ghost use Rattle.plan_report.specs.Report.{answer_line, counts_lines, filter_line, kind_line, kind_text};
+ghost use Rattle.plan_report.specs.Report.{prefix_counts_lines, rows_text, tuples_line, tuples_lines};
 ghost use Rattle.plan_report.specs.Run.{IsRunOf, run_counts};
 
 use crate::pieces::{put, put_long, put_number};
@@ -34,7 +35,8 @@ pub(crate) fn put_rows(
 ) -> Result<(), Memory>
     requires run { IfSome run.now (IsRunOf relations) }
     requires relation { relation < relations }
-    ensures { OnOk result (out.new.items ≡ out.old.items ++ rows_text (option_map run_counts run.now) relation) }
+    ensures { OnOk result (out.new.items ≡ out.old.items
+        ++ rows_text (option_map run_counts run.now) relation) }
 {
     match run {
         Some(run) => put_row_counts(out, run, relations, relation),
@@ -50,7 +52,8 @@ fn put_row_counts(
 ) -> Result<(), Memory>
     requires run { IsRunOf relations run.now }
     requires relation { relation < relations }
-    ensures { OnOk result (out.new.items ≡ out.old.items ++ rows_text (Some (run_counts run.now)) relation) }
+    ensures { OnOk result (out.new.items ≡ out.old.items
+        ++ rows_text (Some (run_counts run.now)) relation) }
 {
     put(out, b" rows ")?;
     put_number(out, run.rows[relation as usize])?;
@@ -63,20 +66,21 @@ fn put_row_counts(
 fn put_reduced(
     out: &mut Vec<u8>,
     run: &RunPart<'_>,
-    relations: u32,
+    _relations: u32,
     relation: u32,
 ) -> Result<(), Memory>
-    requires run { IsRunOf relations run.now }
-    requires relation { relation < relations }
-    ensures { OnOk result (out.new.items ≡ out.old.items ++ decimal (slice_index (run_counts run.now).reduced relation)) }
+    requires run { IsRunOf _relations run.now }
+    requires relation { relation < _relations }
+    ensures { OnOk result (out.new.items ≡ out.old.items
+        ++ decimal (slice_index (run_counts run.now).reduced relation)) }
 {
-    let _ = relations;
     put_number(out, run.transfer.reduced(relation))
 }
 
 /// Which filters a run has. Without a run nothing is put.
 pub(crate) fn put_filter(out: &mut Vec<u8>, run: &Option<RunPart<'_>>) -> Result<(), Memory>
-    ensures { OnOk result (out.new.items ≡ out.old.items ++ filter_line (option_map run_counts run.now)) }
+    ensures { OnOk result (out.new.items ≡ out.old.items
+        ++ filter_line (option_map run_counts run.now)) }
 {
     match run {
         Some(run) => put_kind(out, run.filter),
@@ -104,7 +108,8 @@ fn word_of(filter: FilterKind) -> &'static [u8]
 
 /// How many tuples each prefix of a run's order has, and then the answer. Without a run nothing is put.
 pub(crate) fn put_tuples(out: &mut Vec<u8>, run: &Option<RunPart<'_>>) -> Result<(), Memory>
-    ensures { OnOk result (out.new.items ≡ out.old.items ++ tuples_lines (option_map run_counts run.now)) }
+    ensures { OnOk result (out.new.items ≡ out.old.items
+        ++ tuples_lines (option_map run_counts run.now)) }
 {
     match run {
         Some(run) => put_counts(out, run.joined),

@@ -1,7 +1,8 @@
 // The lines of the tree, and of the join lists of prefixes.
 ghost use Rattle.std.specs.Prelude.{◌≡◌, ◌<◌, ◌++◌, IfSome, OnOk, length};
 ghost use Rattle.join_graph.specs.JoinList.{HasParents};
-ghost use Rattle.plan_report.specs.Report.{AreLists, link_text, list_text, prefix_line, prefix_lines, safe_line, tree_line, unsafe_line, weight_line};
+ghost use Rattle.plan_report.specs.Report.{AreLists, link_text, list_text, prefix_line, prefix_lines};
+ghost use Rattle.plan_report.specs.Report.{safe_line, tree_line, unsafe_line, weight_line};
 
 use crate::pieces::{put, put_alias, put_number};
 use bound_query::Bound;
@@ -38,7 +39,8 @@ pub(crate) fn put_prefixes(
 ) -> Result<(), Memory>
     requires each { length lists.now ≡ length bound.now.query.table_of }
     requires lists { AreLists (length bound.now.query.table_of) lists.now }
-    ensures { OnOk result (out.new.items ≡ out.old.items ++ prefix_lines bound.now.query lists.now) }
+    ensures { OnOk result (out.new.items ≡ out.old.items
+        ++ prefix_lines bound.now.query lists.now) }
 {
     for index in 0..bound.relations() {
         put_prefix(out, bound, index + 1, &lists[index as usize])?;
@@ -54,7 +56,8 @@ fn put_prefix(
     list: &Option<Tree>,
 ) -> Result<(), Memory>
     requires { IfSome list.now (λ tree. HasParents (length bound.now.query.table_of) tree.root tree.links) }
-    ensures { OnOk result (out.new.items ≡ out.old.items ++ prefix_line bound.now.query (count, list.now)) }
+    ensures { OnOk result (out.new.items ≡ out.old.items
+        ++ prefix_line bound.now.query (count, list.now)) }
 {
     match list {
         Some(list) => put_safe(out, bound, count, list),
@@ -64,7 +67,8 @@ fn put_prefix(
 
 fn put_safe(out: &mut Vec<u8>, bound: &Bound, count: u32, list: &Tree) -> Result<(), Memory>
     requires { HasParents (length bound.now.query.table_of) list.now.root list.now.links }
-    ensures { OnOk result (out.new.items ≡ out.old.items ++ safe_line bound.now.query count list.now) }
+    ensures { OnOk result (out.new.items ≡ out.old.items
+        ++ safe_line bound.now.query count list.now) }
 {
     put(out, b"safe ")?;
     put_number(out, count)?;

@@ -50,7 +50,8 @@ pub struct ReportInput<'a> {
 /// and how many the filters leave. Names are printed as their bytes, and numbers in decimal. Want of memory is the one error.
 pub fn report(alloc: Global, input: &ReportInput) -> Result<Vec<u8>, Memory>
     requires graph { input.now.graph.now ≡ input.now.bound.now.known.sets }
-    requires tree { HasParents (length input.now.bound.now.known.sets) input.now.tree.now.root input.now.tree.now.links }
+    requires tree { HasParents (length input.now.bound.now.known.sets)
+        input.now.tree.now.root input.now.tree.now.links }
     requires order_length { length input.now.order.now ≡ length input.now.bound.now.query.table_of }
     requires order { All (λ r. r < length input.now.bound.now.query.table_of) input.now.order.now }
     requires lists_length { length input.now.lists.now ≡ length input.now.bound.now.query.table_of }

@@ -1,6 +1,7 @@
 -- Patterns, one character at a time.
 use Rattle.std.proofs.Common.{◌≡◌, ◌≢◌, ◌∙◌, ◌⊎◌, inl, inr, ℕ, ◌&&◌, ◌||◌, Bool, true, false, List, [], ◌∷◌, refl, sym}
 use Rattle.std.proofs.lemmas.Bool.{eq-eqb, false≢true, ne_eqb}
+use Rattle.rpt_base.proofs.BoolFacts.{same_truth}
 use Rattle.predicate.specs.Like.{some_tail, first_and_rest, stands_for, is_like}
 
 module _ (passes : List ℕ → Bool) where
@@ -36,12 +37,6 @@ module _ (passes : List ℕ → Bool) where
       by : (b : Bool) → (some_tail (some_tail passes) text ≡ true → b ≡ true) → (b || some_tail (some_tail passes) text) ≡ true → b ≡ true
       by true step g = refl
       by false step g = step g
-
--- two tests that are true at the same time are one
-same_tests : (a b : Bool) → (a ≡ true → b ≡ true) → (b ≡ true → a ≡ true) → a ≡ b
-same_tests true b h g = sym (h refl)
-same_tests false true h g = g refl
-same_tests false false h g = refl
 
 -- the first character of a pattern, where it isn't `%`
 plain : (p : ℕ) (pattern text : List ℕ) → p ≢ 37 → is_like (p ∷ pattern) text ≡ first_and_rest (stands_for p) (is_like pattern) text
@@ -99,7 +94,7 @@ module _ (pattern text left rest : List ℕ) (r : Reaches pattern text left rest
   reaches-percent p behind e percent =
       let s = rw (e, percent) at r.same in
       let g = rw (e, percent) at r.early in
-      (s, same_tests _ _ (λ h. some_tail-twice (is_like behind) rest (g h)) (λ h. some_tail-here (is_like pattern) text (s ∙ h)))
+      (s, same_truth _ _ (λ h. some_tail-twice (is_like behind) rest (g h)) (λ h. some_tail-here (is_like pattern) text (s ∙ h)))
 
   pub reaches-whole : left ≡ [] → rest ≡ [] → is_like pattern text ≡ true
   reaches-whole e f = rw (e, f) at r.same

@@ -1,20 +1,19 @@
 -- When a condition is true of a row.
-use Rattle.std.specs.Prelude.{ℕ, ◌<◌, Bool, true, false, not, List, Option, Some, length, pos, slice_get, slice_index_or}
+use Rattle.std.specs.Prelude.{ℕ, ◌<◌, Bool, true, false, not, List, Option, Some, length, slice_get, slice_index_or}
 use Rattle.std.specs.declared.cmp.Ordering.{Ordering}
-use Rattle.std.specs.declared.cmp.Ordering.TheVariants.{Less, Greater}
-use Rattle.std.specs.Ordering.{int_cmp, nat_cmp, is_eq, is_ne, is_lt, is_le, is_gt, is_ge}
-use Rattle.std.specs.Cmp.Lexicographic.{slice_cmp}
+use Rattle.std.specs.Ordering.{is_eq, is_ne, is_lt, is_le, is_gt, is_ge}
 use Rattle.std.specs.List.{list_all, list_any}
 use Rattle.std.specs.Str.{chars}
 use Rattle.rpt_base.specs.declared.values.ColumnType.{ColumnType}
 use Rattle.rpt_base.specs.declared.values.ColumnType.TheVariants as kind
+use Rattle.rpt_base.specs.Values.{order_of}
 use Rattle.rpt_base.specs.declared.values.Value.{Value}
 use Rattle.rpt_base.specs.declared.values.Value.TheVariants as value
-use Rattle.column_table.specs.Table.{type_of_value}
+use Rattle.column_table.specs.Table.{no_value, type_of_value}
 use Rattle.predicate.specs.declared.tree.Operand.{Operand}
 use Rattle.predicate.specs.declared.tree.Operand.TheVariants as operand
-use Rattle.predicate.specs.declared.tree.Op.{Op}
-use Rattle.predicate.specs.declared.tree.Op.TheVariants as op
+use Rattle.rpt_base.specs.declared.comparisons.Comparison.{Comparison}
+use Rattle.rpt_base.specs.declared.comparisons.Comparison.TheVariants as op
 use Rattle.predicate.specs.declared.tree.Pred.{Pred}
 use Rattle.predicate.specs.declared.tree.Pred.TheOpen.{Pred-F}
 use Rattle.predicate.specs.declared.tree.Pred.TheFolds.{fold-Pred}
@@ -50,18 +49,11 @@ is_typed kinds = fold-Pred Bool (is_typed_over kinds)
 
 -- the value of an operand in a row
 abbrev pub value_in : List Value → Operand → Value
-value_in row (operand.Column column) = slice_index_or row column (value.Int (pos 0))
+value_in row (operand.Column column) = slice_index_or row column no_value
 value_in row (operand.Literal v) = v
 
--- how two values stand: numbers by value, texts by their bytes, a number before a text
-abbrev pub order_of : Value → Value → Ordering
-order_of (value.Int a) (value.Int b) = int_cmp a b
-order_of (value.Int a) (value.Text b) = Less
-order_of (value.Text a) (value.Int b) = Greater
-order_of (value.Text a) (value.Text b) = slice_cmp nat_cmp a b
-
 -- what each comparison says of two values that stand so
-abbrev pub says : Op → Ordering → Bool
+abbrev pub says : Comparison → Ordering → Bool
 says op.Eq = is_eq
 says op.Ne = is_ne
 says op.Lt = is_lt

@@ -11,7 +11,8 @@ mod tree;
 mod truth;
 mod typing;
 
+pub use rpt_base::Comparison as Op;
 pub use selection::select;
-pub use tree::{Op, Operand, Pred};
+pub use tree::{Operand, Pred};
 pub use truth::holds;
 pub use typing::is_typed;

@@ -1,5 +1,5 @@
 // Conditions.
-use rpt_base::{Str, Value};
+use rpt_base::{Comparison, Str, Value};
 use sqlite_items::{Boxed, Items};
 
 /// What stands on a side of a comparison.
@@ -8,17 +8,6 @@ pub enum Operand {
     /// The row's value in a column, numbered from 0.
     Column(u32),
     Literal(Value),
-}
-
-/// A comparison of two values.
-#[derive(Clone, Copy, Debug, PartialEq, Eq)]
-pub enum Op {
-    Eq,
-    Ne,
-    Lt,
-    Le,
-    Gt,
-    Ge,
 }
 
 /// A condition on a row.
@@ -31,7 +20,7 @@ pub enum Pred {
     Not(Boxed<Pred>),
     /// Numbers are compared by value, and texts by their bytes.
     Compare {
-        op: Op,
+        op: Comparison,
         left: Operand,
         right: Operand,
     },

@@ -2,12 +2,13 @@
 ghost use Rattle.std.specs.Prelude.{◌≡◌, ◌<◌, [], IsTrue, length, slice_index_or};
 ghost use Rattle.std.specs.List.{list_all, list_any};
 ghost use Rattle.column_table.specs.Table.{IsUtf8Cell, value_of};
-ghost use Rattle.predicate.specs.Truth.{HasColumn, is_text_like, is_true, is_typed, order_of, says, value_in};
+ghost use Rattle.predicate.specs.Truth.{HasColumn, is_text_like, is_true, is_typed, says, value_in};
+ghost use Rattle.rpt_base.specs.Values.{order_of};
 
 use crate::like::is_like;
-use crate::tree::{Op, Operand, Pred};
+use crate::tree::{Operand, Pred};
 use column_table::Table;
-use rpt_base::{Cell, Str, Value};
+use rpt_base::{Cell, Comparison, Str, Value};
 use std::cmp::Ordering;
 use std::str;
 
@@ -93,16 +94,16 @@ fn order_of(left: Cell<'_>, right: Cell<'_>) -> Ordering
 }
 
 // What a comparison says of two values that stand so.
-fn says(op: Op, order: Ordering) -> bool
+fn says(op: Comparison, order: Ordering) -> bool
     ensures { result ≡ says op order }
 {
     match op {
-        Op::Eq => order.is_eq(),
-        Op::Ne => order.is_ne(),
-        Op::Lt => order.is_lt(),
-        Op::Le => order.is_le(),
-        Op::Gt => order.is_gt(),
-        Op::Ge => order.is_ge(),
+        Comparison::Eq => order.is_eq(),
+        Comparison::Ne => order.is_ne(),
+        Comparison::Lt => order.is_lt(),
+        Comparison::Le => order.is_le(),
+        Comparison::Gt => order.is_gt(),
+        Comparison::Ge => order.is_ge(),
     }
 }
 

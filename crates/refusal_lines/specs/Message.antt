@@ -6,8 +6,10 @@ use Rattle.script_rules.specs.declared.kinds.BindKind.{BindKind}
 use Rattle.script_rules.specs.declared.kinds.BindKind.TheVariants as bind
 use Rattle.refusal_lines.specs.declared.message.Part.{Part}
 use Rattle.refusal_lines.specs.declared.message.Part.TheVariants as part
-use Rattle.refusal_lines.specs.declared.refusal.Refusal.{Refusal}
-use Rattle.refusal_lines.specs.declared.refusal.Refusal.TheVariants.{Usage, ReadFault, TooLarge, Lex, Syntax, TooDeep, Bind, Cyclic, OrderNames, UnsafeOrder, Header, Ragged, BadField, NotUtf8, TooManyRows, RowsOverflow, WriteFault, Memory}
+use Rattle.refusal_lines.specs.declared.errors.Refusal.{Refusal}
+use Rattle.refusal_lines.specs.declared.errors.Refusal.TheVariants.{Usage, ReadFault, TooLarge, Lex, Syntax, TooDeep, Bind}
+use Rattle.refusal_lines.specs.declared.errors.Refusal.TheVariants.{Cyclic, OrderNames, UnsafeOrder, Header, Ragged}
+use Rattle.refusal_lines.specs.declared.errors.Refusal.TheVariants.{BadField, NotUtf8, TooManyRows, RowsOverflow, WriteFault, Memory}
 
 abbrev pub status_of : Refusal → ℕ
 status_of Usage = 2
@@ -46,26 +48,39 @@ text_of bind.Ambiguous = codes "ambiguous column"
 text_of bind.TypeMismatch = codes "type mismatch"
 text_of bind.NotEquiJoin = codes "not an equality join"
 
+-- pieces one after the other, and the end of the line
+abbrev pub line : List (List ℕ) → List ℕ
+line [] = line_end
+line (piece ∷ pieces) = piece ++ line pieces
+
+-- the line of a field that is refused
+abbrev pub field_line : List ℕ → List ℕ → ℕ → List ℕ → List ℕ
+field_line table what row column =
+    line (codes "rpt: " ∷ table ∷ what ∷ decimal row ∷ codes " column " ∷ column ∷ [])
+
 -- the line of a refusal
 abbrev pub line_of : Refusal → List ℕ
-line_of Usage = codes "rpt: usage: rpt run|explain|check|sample SCRIPT DIR [--filter bloom|exact|none] [--workers N] [--morsel N] [--order A,B] [--force]" ++ line_end
-line_of (ReadFault name) = codes "rpt: cannot read " ++ (name ++ line_end)
-line_of (TooLarge name) = codes "rpt: too large: " ++ (name ++ line_end)
-line_of (Lex offset) = codes "rpt: bad token at " ++ (decimal offset ++ line_end)
-line_of (Syntax offset) = codes "rpt: syntax error at " ++ (decimal offset ++ line_end)
-line_of (TooDeep offset) = codes "rpt: nested too deep at " ++ (decimal offset ++ line_end)
-line_of (Bind kind offset) = codes "rpt: " ++ (text_of kind ++ (codes " at " ++ (decimal offset ++ line_end)))
-line_of (Cyclic best needed) = codes "rpt: cyclic: weight " ++ (decimal best ++ (codes " of " ++ (decimal needed ++ line_end)))
-line_of OrderNames = codes "rpt: order is not a permutation of the relations" ++ line_end
-line_of (UnsafeOrder prefix) = codes "rpt: unsafe order at prefix " ++ (decimal prefix ++ line_end)
-line_of (Header table column) = codes "rpt: " ++ (table ++ (codes ": header column " ++ (column ++ line_end)))
-line_of (Ragged table row) = codes "rpt: " ++ (table ++ (codes ": ragged row " ++ (decimal row ++ line_end)))
-line_of (BadField table row column) = codes "rpt: " ++ (table ++ (codes ": bad field at row " ++ (decimal row ++ (codes " column " ++ (column ++ line_end)))))
-line_of (NotUtf8 table row column) = codes "rpt: " ++ (table ++ (codes ": not UTF-8 at row " ++ (decimal row ++ (codes " column " ++ (column ++ line_end)))))
-line_of TooManyRows = codes "rpt: too many rows" ++ line_end
-line_of (RowsOverflow prefix) = codes "rpt: too many joined rows at prefix " ++ (decimal prefix ++ line_end)
-line_of WriteFault = codes "rpt: cannot write" ++ line_end
-line_of Memory = codes "rpt: out of memory" ++ line_end
+line_of Usage =
+    line (codes "rpt: usage: rpt run|explain|check|sample SCRIPT DIR"
+    ∷ codes " [--filter bloom|exact|none] [--workers N] [--morsel N] [--order A,B] [--force]" ∷ [])
+line_of (ReadFault name) = line (codes "rpt: cannot read " ∷ name ∷ [])
+line_of (TooLarge name) = line (codes "rpt: too large: " ∷ name ∷ [])
+line_of (Lex offset) = line (codes "rpt: bad token at " ∷ decimal offset ∷ [])
+line_of (Syntax offset) = line (codes "rpt: syntax error at " ∷ decimal offset ∷ [])
+line_of (TooDeep offset) = line (codes "rpt: nested too deep at " ∷ decimal offset ∷ [])
+line_of (Bind kind offset) = line (codes "rpt: " ∷ text_of kind ∷ codes " at " ∷ decimal offset ∷ [])
+line_of (Cyclic best needed) =
+    line (codes "rpt: cyclic: weight " ∷ decimal best ∷ codes " of " ∷ decimal needed ∷ [])
+line_of OrderNames = line (codes "rpt: order is not a permutation of the relations" ∷ [])
+line_of (UnsafeOrder prefix) = line (codes "rpt: unsafe order at prefix " ∷ decimal prefix ∷ [])
+line_of (Header table column) = line (codes "rpt: " ∷ table ∷ codes ": header column " ∷ column ∷ [])
+line_of (Ragged table row) = line (codes "rpt: " ∷ table ∷ codes ": ragged row " ∷ decimal row ∷ [])
+line_of (BadField table row column) = field_line table (codes ": bad field at row ") row column
+line_of (NotUtf8 table row column) = field_line table (codes ": not UTF-8 at row ") row column
+line_of TooManyRows = line (codes "rpt: too many rows" ∷ [])
+line_of (RowsOverflow prefix) = line (codes "rpt: too many joined rows at prefix " ∷ decimal prefix ∷ [])
+line_of WriteFault = line (codes "rpt: cannot write" ∷ [])
+line_of Memory = line (codes "rpt: out of memory" ∷ [])
 
 -- a part of a line: a text, or a number in decimal
 abbrev pub part_text : Part → List ℕ

@@ -4,10 +4,10 @@
 //! broke off where the sink's count of faults rose.
 #![tactic(auto)]
 
+mod errors;
 mod message;
 mod pieces;
-mod refusal;
 
+pub use errors::Refusal;
 pub use message::{put_line, status};
 pub use pieces::put_text;
-pub use refusal::Refusal;

@@ -1,11 +1,12 @@
 // The status of a refusal, and its line.
-ghost use Rattle.std.specs.Prelude.{◌≡◌, ◌++◌, codes};
+ghost use Rattle.std.specs.Prelude.{◌≡◌, ◌∷◌, []};
 ghost use Rattle.std.specs.Fmt.{decimal};
 ghost use Rattle.rpt_outside.specs.Causes.{Puts};
-ghost use Rattle.refusal_lines.specs.Message.{line_end, line_of, text_of as bind_text, part_text, parts_text, status_of};
-ghost use Rattle.refusal_lines.specs.declared.refusal.Refusal.TheVariants.{Bind, Cyclic, Header, Ragged};
+ghost use Rattle.refusal_lines.specs.Message.{field_line, line, line_of, part_text, parts_text, status_of};
+ghost use Rattle.refusal_lines.specs.Message.{text_of as bind_text};
+ghost use Rattle.refusal_lines.specs.declared.errors.Refusal.TheVariants.{Bind, Cyclic, Header, Ragged, Usage};
 
-use crate::refusal::Refusal;
+use crate::errors::Refusal;
 use Part::{Number, Text};
 use itoa::Buffer;
 use rpt_base::Str;
@@ -24,9 +25,6 @@ const RPT: &[u8] = b"rpt: ";
 const END: Part<'static> = Text(b"\n");
 
 const NONE: Part<'static> = Text(b"");
-
-const USAGE: &[u8] =
-    b"rpt: usage: rpt run|explain|check|sample SCRIPT DIR [--filter bloom|exact|none] [--workers N] [--morsel N] [--order A,B] [--force]";
 
 /// The exit status of a refusal, 1 to 10.
 pub fn status(refusal: &Refusal) -> u8
@@ -52,7 +50,8 @@ pub fn status(refusal: &Refusal) -> u8
 /// Puts the line of a refusal. `Failed` comes only where the sink's count of faults rose, and then a prefix of the line was
 /// taken. It takes no memory.
 pub fn put_line<M: Sink>(refusal: &Refusal, sink: &mut M) -> Result<(), Failed>
-    ensures { Puts (M.taken sink.old) (M.taken sink.new) (M.faults sink.old) (M.faults sink.new) (line_of refusal.now) result }
+    ensures { Puts (M.taken sink.old) (M.taken sink.new) (M.faults sink.old) (M.faults sink.new)
+        (line_of refusal.now) result }
 {
     put_parts(&parts(refusal), sink)
 }
@@ -62,7 +61,7 @@ fn parts(refusal: &Refusal) -> [Part<'_>; 7]
     ensures { parts_text result ≡ line_of refusal.now }
 {
     match refusal {
-        Refusal::Usage => plain(USAGE),
+        Refusal::Usage => usage(),
         Refusal::ReadFault { name } => named(b"rpt: cannot read ", name),
         Refusal::TooLarge { name } => named(b"rpt: too large: ", name),
         Refusal::Lex { offset } => placed(b"rpt: bad token at ", *offset),
@@ -96,20 +95,34 @@ fn parts(refusal: &Refusal) -> [Part<'_>; 7]
     }
 }
 
+fn usage<'a>() -> [Part<'a>; 7]
+    ensures { parts_text result ≡ line_of Usage }
+{
+    [
+        Text(b"rpt: usage: rpt run|explain|check|sample SCRIPT DIR"),
+        Text(b" [--filter bloom|exact|none] [--workers N] [--morsel N] [--order A,B] [--force]"),
+        END,
+        NONE,
+        NONE,
+        NONE,
+        NONE,
+    ]
+}
+
 fn plain(text: &[u8]) -> [Part<'_>; 7]
-    ensures { parts_text result ≡ text.now ++ line_end }
+    ensures { parts_text result ≡ line (text.now ∷ []) }
 {
     [Text(text), END, NONE, NONE, NONE, NONE, NONE]
 }
 
 fn named<'a>(head: &'a [u8], name: &'a Str) -> [Part<'a>; 7]
-    ensures { parts_text result ≡ head.now ++ (name.now ++ line_end) }
+    ensures { parts_text result ≡ line (head.now ∷ name.now ∷ []) }
 {
     [Text(head), Text(name.bytes()), END, NONE, NONE, NONE, NONE]
 }
 
 fn placed(head: &[u8], offset: u32) -> [Part<'_>; 7]
-    ensures { parts_text result ≡ head.now ++ (decimal offset ++ line_end) }
+    ensures { parts_text result ≡ line (head.now ∷ decimal offset ∷ []) }
 {
     [Text(head), Number(offset), END, NONE, NONE, NONE, NONE]
 }
@@ -190,7 +203,7 @@ fn ragged(table: &Str, row: u32) -> [Part<'_>; 7]
 }
 
 fn field<'a>(table: &'a Str, what: &'a [u8], row: u32, column: &'a Str) -> [Part<'a>; 7]
-    ensures { parts_text result ≡ codes "rpt: " ++ (table.now ++ (what.now ++ (decimal row ++ (codes " column " ++ (column.now ++ line_end))))) }
+    ensures { parts_text result ≡ field_line table.now what.now row column.now }
 {
     [
         Text(RPT),
@@ -204,7 +217,8 @@ fn field<'a>(table: &'a Str, what: &'a [u8], row: u32, column: &'a Str) -> [Part
 }
 
 fn put_parts<M: Sink>(parts: &[Part], sink: &mut M) -> Result<(), Failed>
-    ensures { Puts (M.taken sink.old) (M.taken sink.new) (M.faults sink.old) (M.faults sink.new) (parts_text parts.now) result }
+    ensures { Puts (M.taken sink.old) (M.taken sink.new) (M.faults sink.old) (M.faults sink.new)
+        (parts_text parts.now) result }
 {
     for part in parts {
         if let Err(failed) = put_part(part, sink) {
@@ -216,7 +230,8 @@ fn put_parts<M: Sink>(parts: &[Part], sink: &mut M) -> Result<(), Failed>
 
 // A number's text is written to a buffer on the stack. An empty part is not put, since each put may be a call on the system.
 fn put_part<M: Sink>(part: &Part, sink: &mut M) -> Result<(), Failed>
-    ensures { Puts (M.taken sink.old) (M.taken sink.new) (M.faults sink.old) (M.faults sink.new) (part_text part.now) result }
+    ensures { Puts (M.taken sink.old) (M.taken sink.new) (M.faults sink.old) (M.faults sink.new)
+        (part_text part.now) result }
 {
     let mut buffer = Buffer::new();
     let text = match part {

@@ -1,8 +1,8 @@
 // The cells of the rows that a list of row numbers names.
 ghost use Rattle.std.specs.Prelude.{◌≡◌};
 ghost use Rattle.column_table.specs.Table.{value_of};
-ghost use Rattle.bound_query.specs.Query.{Names};
-ghost use Rattle.bound_query.specs.Answer.{AreTables, value_at};
+ghost use Rattle.bound_query.specs.Query.{IsColumnOf};
+ghost use Rattle.bound_query.specs.Answer.{AreTables, tuple_value};
 ghost use Rattle.row_output.specs.Tuples.{AreRowNumbers};
 
 use bound_query::{Bound, ColumnRef, table_at};
@@ -18,8 +18,8 @@ pub(crate) fn cell_at<'t>(
 ) -> Cell<'t>
     requires tables { AreTables bound.now.query tables.now }
     requires numbers { AreRowNumbers bound.now.query tables.now numbers.now }
-    requires column { Names bound.now.query column }
-    ensures { value_of result ≡ value_at bound.now.query tables.now numbers.now column }
+    requires column { IsColumnOf bound.now.query column }
+    ensures { value_of result ≡ tuple_value bound.now.query tables.now numbers.now column }
 {
     let table = table_at(bound, tables, column.relation);
     table.cell(numbers[column.relation as usize], column.column)

@@ -1,13 +1,14 @@
 // The text of an answer.
-ghost use Rattle.std.specs.Prelude.{◌≡◌, ◌++◌, ◌∷◌, [], List, ℕ, IfOk, OnOk};
+ghost use Rattle.std.specs.Prelude.{◌≡◌, ◌∷◌, [], IfOk, OnOk};
 ghost use Rattle.std.specs.List.{All};
+ghost use Rattle.column_table.specs.FieldText.{field_text};
 ghost use Rattle.column_table.specs.Table.{value_of};
 ghost use Rattle.csv.specs.Records.{fields_of, partial_of};
 ghost use Rattle.csv.specs.Writing.{default_writer, row_text};
 ghost use Rattle.bound_query.specs.Answer.{AreTables};
-ghost use Rattle.row_output.specs.OutputText.{cells, output_text, rows_text, text_of, titles};
+ghost use Rattle.row_output.specs.OutputText.{cells, output_text, rows_text, titles};
 ghost use Rattle.row_output.specs.Tuples.{AreRowNumbers};
-ghost use Rattle.row_output.specs.Writing.{HasWritten};
+ghost use Rattle.row_output.specs.Writing.{PutsField, WritesMore};
 
 use crate::answer::Answer;
 use crate::cells::cell_at;
@@ -54,7 +55,7 @@ fn write_rows(
 ) -> Result<(), Memory>
     requires tables { AreTables bound.now.query tables.now }
     requires rows { All (AreRowNumbers bound.now.query tables.now) answer.now.rows }
-    ensures { (text : List ℕ) → HasWritten writer.old text → OnOk result (HasWritten writer.new (text ++ rows_text bound.now.query tables.now answer.now.rows)) }
+    ensures { WritesMore result writer.old writer.new (rows_text bound.now.query tables.now answer.now.rows) }
 {
     'rows: for row in 0..answer.count() {
         write_row(writer, fields, answer.row(row), bound, tables)?;
@@ -71,7 +72,7 @@ fn write_row(
 ) -> Result<(), Memory>
     requires tables { AreTables bound.now.query tables.now }
     requires numbers { AreRowNumbers bound.now.query tables.now numbers.now }
-    ensures { (text : List ℕ) → HasWritten writer.old text → OnOk result (HasWritten writer.new (text ++ rows_text bound.now.query tables.now (numbers.now ∷ []))) }
+    ensures { WritesMore result writer.old writer.new (rows_text bound.now.query tables.now (numbers.now ∷ [])) }
 {
     put_cells(fields, numbers, bound, tables)?;
     write(writer, fields)
@@ -79,7 +80,7 @@ fn write_row(
 
 // Writes a record behind what was written.
 fn write(writer: &mut Writer<Vec<u8>>, fields: &ByteRecord) -> Result<(), Memory>
-    ensures { (text : List ℕ) → HasWritten writer.old text → OnOk result (HasWritten writer.new (text ++ row_text default_writer (fields_of fields.now))) }
+    ensures { WritesMore result writer.old writer.new (row_text default_writer (fields_of fields.now)) }
 {
     match writer.write_byte_record(fields) {
         Ok(()) => Ok(()),
@@ -92,9 +93,7 @@ fn put_titles(fields: &mut ByteRecord, columns: &[OutColumn]) -> Result<(), Memo
 {
     fields.clear();
     for column in columns {
-        if fields.push_field(column.title.bytes()).is_err() {
-            return Err(Memory);
-        }
+        fields.push_field(column.title.bytes())?;
     }
     Ok(())
 }
@@ -119,7 +118,7 @@ fn put_cells(
 
 // The number's text is written to a buffer on the stack.
 fn put_cell(fields: &mut ByteRecord, cell: Cell<'_>) -> Result<(), Memory>
-    ensures field { OnOk result (partial_of fields.old ≡ [] → fields_of fields.new ≡ fields_of fields.old ++ text_of (value_of cell.entry) ∷ []) }
+    ensures field { OnOk result (PutsField fields.old fields.new (field_text (value_of cell.entry))) }
     ensures between { OnOk result (partial_of fields.new ≡ []) }
 {
     let mut buffer = Buffer::new();
@@ -127,8 +126,6 @@ fn put_cell(fields: &mut ByteRecord, cell: Cell<'_>) -> Result<(), Memory>
         Cell::Int(number) => buffer.format(number).as_bytes(),
         Cell::Text(text) => text,
     };
-    match fields.push_field(field) {
-        Ok(()) => Ok(()),
-        Err(_) => Err(Memory),
-    }
+    fields.push_field(field)?;
+    Ok(())
 }

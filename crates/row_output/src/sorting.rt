@@ -55,13 +55,9 @@ fn rows_of(alloc: Global, answer: &Answer) -> Result<Vec<Headed<'_>>, Memory>
     ensures wide { IfOk result (λ rows. All (λ row. length row.2.now ≡ answer.now.width) rows.items) }
     ensures heads { IfOk result (λ rows. All (λ row. IsHead row.0 row.1 row.2.now) rows.items) }
 {
-    let Ok(mut rows) = Vec::with_capacity(alloc, answer.count() as usize) else {
-        return Err(Memory);
-    };
+    let mut rows = Vec::with_capacity(alloc, answer.count() as usize)?;
     for row in 0..answer.count() {
-        if rows.push(headed(answer.row(row))).is_err() {
-            return Err(Memory);
-        }
+        rows.push(headed(answer.row(row)))?;
     }
     Ok(rows)
 }

@@ -1,6 +1,6 @@
 -- Rows whose bit is set, and filters of them.
 use Rattle.std.proofs.Common.{◌≡◌, ◌∙◌, ap, refl, arith, ℕ, zero, suc, ◌+◌, ◌<◌, ◌≤◌, Bool, true, false, List, [], ◌∷◌, length, get_or, map}
-use Rattle.std.specs.Prelude.{◌==◌, ◌&&◌, cond, filter}
+use Rattle.std.specs.Prelude.{◌==◌, ◌&&◌, filter}
 use Rattle.std.specs.List.{All, range_with_len}
 use Rattle.std.proofs.lemmas.Bool.{eqb-true}
 use Rattle.std.proofs.lemmas.List.{length-map, get_or-map}
@@ -12,20 +12,6 @@ use Rattle.column_table.specs.Bits.{set_rows}
 pub empty-is : {X : Type 0} (xs : List X) → (length xs == 0) ≡ true → xs ≡ []
 empty-is [] e = refl
 empty-is (x ∷ xs) e = let none : suc (length xs) ≡ 0 = eqb-true (suc (length xs)) 0 e in absurd (omega arith)
-
--- what passes one test and then another passes both
-filter-head : {X : Type 0} (p q : X → Bool) (x : X) (rest : List X) (b : Bool) → p x ≡ b → filter q (cond b (x ∷ rest) rest) ≡ cond (b && q x) (x ∷ filter q rest) (filter q rest)
-filter-head p q x rest true e = refl
-filter-head p q x rest false e = refl
-
-pub filter-twice : {X : Type 0} (p q : X → Bool) (xs : List X) → filter q (filter p xs) ≡ filter (λ x. p x && q x) xs
-filter-twice p q [] = refl
-filter-twice p q (x ∷ xs) = filter-head p q x (filter p xs) (p x) refl ∙ ap (λ rest. cond (p x && q x) (x ∷ rest) rest) (filter-twice p q xs)
-
--- what passes a test that all pass
-pub filter-all : {X : Type 0} (xs : List X) → filter (λ x. true) xs ≡ xs
-filter-all [] = refl
-filter-all (x ∷ xs) = ap (λ rest. x ∷ rest) (filter-all xs)
 
 -- two tests that agree on the numbers of a range
 filter-range : (p q : ℕ → Bool) (a n : ℕ) → ((k : ℕ) → a ≤ k → k < a + n → p k ≡ q k) → filter p (range_with_len a n) ≡ filter q (range_with_len a n)

@@ -20,7 +20,8 @@ use Rattle.bound_query.specs.Answer.{table_at}
 use Rattle.join_laws.specs.Selected.{is_selected, selected_rows}
 use Rattle.bound_query.proofs.RelationTables.{column-within}
 use Rattle.row_selection.specs.Linked.{AreColumns, AreRows, is_linked}
-use Rattle.row_selection.proofs.ListFacts.{filter-all, filter-twice, set_rows-below, set_rows-map}
+use Rattle.row_selection.proofs.ListFacts.{set_rows-below, set_rows-map}
+use Rattle.rpt_base.proofs.FilterFacts.{filter-all, filter-filter}
 
 -- the rows of which a condition is true and that have the same value in each pair
 abbrev both : Rows → Pred → List (ℕ × ℕ) → List ℕ
@@ -28,7 +29,7 @@ both t p pairs = filter (λ k. is_true p (get_or t.rows k []) && is_linked t pai
 
 both-are : (t : Rows) (p : Pred) (pairs : List (ℕ × ℕ)) → filter (is_linked t pairs) (set_rows (map (is_true p) t.rows)) ≡ both t p pairs
 both-are t p pairs =
-    ap (filter (is_linked t pairs)) (set_rows-map (is_true p) t.rows []) ∙ filter-twice (λ k. is_true p (get_or t.rows k [])) (is_linked t pairs) (range_with_len 0 (length t.rows))
+    ap (filter (is_linked t pairs)) (set_rows-map (is_true p) t.rows []) ∙ filter-filter (λ k. is_true p (get_or t.rows k [])) (is_linked t pairs) (range_with_len 0 (length t.rows))
 
 module _ (b : BoundQuery) (tables : List Rows) (r : ℕ) (t : Rows) (p : Pred) (pairs : List (ℕ × ℕ)) (bits : List Bool)
     (table : t ≡ table_at b.query tables r) (condition : slice_get b.query.conditions r ≡ Some p) (local : slice_get b.known.local r ≡ Some pairs) (are : bits ≡ map (is_true p) t.rows) where

@@ -1,20 +1,17 @@
--- Rows with the same value in linked columns.
+-- Rows with equal values in linked columns.
 -- Words of this crate's own contracts.
-use Rattle.std.specs.Prelude.{ℕ, ◌<◌, Bool, List, [], length, pos, slice_index_or}
+use Rattle.std.specs.Prelude.{ℕ, ◌<◌, Bool, List, length}
 use Rattle.std.specs.List.{All, list_all}
-use Rattle.std.specs.Ordering.{is_eq}
-use Rattle.rpt_base.specs.declared.values.Value.{Value}
-use Rattle.rpt_base.specs.declared.values.Value.TheVariants as value
-use Rattle.column_table.specs.Table.{Rows}
-use Rattle.predicate.specs.Truth.{order_of}
+use Rattle.rpt_base.specs.Values.{are_equal}
+use Rattle.column_table.specs.Table.{Rows, value_at}
 
--- the row has the same value in both columns
-abbrev pub has_same : List Value → ℕ × ℕ → Bool
-has_same row p = is_eq (order_of (slice_index_or row p.0 (value.Int (pos 0))) (slice_index_or row p.1 (value.Int (pos 0))))
+-- a row of the table has equal values in both columns
+abbrev pub has_equal : Rows → ℕ → ℕ × ℕ → Bool
+has_equal table row p = are_equal (value_at table row p.0) (value_at table row p.1)
 
--- row k of the table has the same value in both columns of each pair
+-- a row of the table has equal values in both columns of each pair
 abbrev pub is_linked : Rows → List (ℕ × ℕ) → ℕ → Bool
-is_linked table pairs k = list_all (has_same (slice_index_or table.rows k [])) pairs
+is_linked table pairs row = list_all (has_equal table row) pairs
 
 -- each pair is one of columns of the table
 abbrev pub AreColumns : Rows → List (ℕ × ℕ) → Type 0

@@ -1,8 +1,48 @@
--- Lists whose members may be missing.
-use Rattle.std.proofs.Common.{◌≡◌, ◌<◌, ◌+◌, ℕ, zero, suc, List, [], ◌∷◌, ◌++◌, length, map, take, get_or, Option, Some, None, refl, arith}
+-- Lists, and lists whose members may be missing.
+use Rattle.std.proofs.Common.{◌≡◌, ◌∙◌, ◌<◌, ◌+◌, ◌||◌, ◌&&◌, ℕ, zero, suc, All, List, [], ◌∷◌, ◌++◌, length, map, take, get_or, Bool, true, false, Option, Some, None, refl, sym, ap, arith}
+use Rattle.std.specs.Prelude.{flat_map, replicate}
+use Rattle.std.specs.List.{list_all, list_any}
 use Rattle.std.proofs.lemmas.List.{map-append, take_more}
+use Rattle.std.proofs.lemmas.List.Elements.{All-append, All-nil, All-tail}
+use mathlib.Core.Option.{some, some-injective, some-ne-none}
+use lib.ListN.{get_elem?}
 use Rattle.rpt_base.specs.Lists.{all_of}
 
+-- two lists that are empty together are empty
+pub front-empty : {X : Type 0} (xs ys : List X) → xs ++ ys ≡ [] → xs ≡ []
+front-empty [] ys h = refl
+front-empty (x ∷ xs) ys h = cc
+
+pub back-empty : {X : Type 0} (xs ys : List X) → xs ++ ys ≡ [] → ys ≡ []
+back-empty [] ys h = h
+back-empty (x ∷ xs) ys h = cc
+
+-- what holds of all that comes of each member
+pub all-flat_map : {X Y : Type 0} (P : Y → Type 0) (f : X → List Y) (xs : List X) → All (λ x. All P (f x)) xs → All P (flat_map f xs)
+all-flat_map P f [] h = All-nil P
+all-flat_map P f (x ∷ xs) h = All-append P (f x) (flat_map f xs) (h 0 x (omega arith)) (all-flat_map P f xs (All-tail (λ x. All P (f x)) x xs h))
+
+-- a copy of one value stands at each place
+pub at-replicate : {X : Type 0} (n i : ℕ) (x : X) → get_or (replicate n x) i x ≡ x
+at-replicate zero i x = refl
+at-replicate (suc n) zero x = refl
+at-replicate (suc n) (suc i) x = at-replicate n i x
+
+-- a test that each member passes, and one that some member passes
+pub all_from : {A : Type 0} (f : A → Bool) (xs : List A) → ((i : ℕ) (a : A) → get_elem? xs i ≡ some a → f a ≡ true) → list_all f xs ≡ true
+all_from f [] h = refl
+all_from f (x ∷ xs) h = λ k. h 0 x refl k && all_from f xs (λ i a e. h (suc i) a e) k
+
+pub any_from : {A : Type 0} (f : A → Bool) (xs : List A) (i : ℕ) (a : A) → get_elem? xs i ≡ some a → f a ≡ true → list_any f xs ≡ true
+any_from f [] i a e h = absurd (some-ne-none a (sym e))
+any_from f (x ∷ xs) zero a e h = λ k. (ap f (some-injective x a e) ∙ h) k || list_any f xs
+any_from f (x ∷ xs) (suc i) a e h = or_yes (f x) (any_from f xs i a e h)
+  where
+    or_yes : (b : Bool) {c : Bool} → c ≡ true → (b || c) ≡ true
+    or_yes true g = refl
+    or_yes false g = g
+
+-- ---- members that may be missing
 -- one more member that is there
 pub all_of-push : {X : Type 0} (os : List (Option X)) (x : X) (xs : List X) → all_of os ≡ Some xs → all_of (os ++ Some x ∷ []) ≡ Some (xs ++ x ∷ [])
 all_of-push [] x xs e = let same : [] ≡ xs = cc in rw (← same) refl

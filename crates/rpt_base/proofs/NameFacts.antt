@@ -32,7 +32,7 @@ bytes-lower (b ∷ bytes) h =
 twice : (b : ℕ) → to_ascii_lowercase (to_ascii_lowercase b) ≡ to_ascii_lowercase b
 twice b = grind (arith, nat_tests)
 
-lower-lower : (bytes : List ℕ) → str_to_ascii_lowercase (str_to_ascii_lowercase bytes) ≡ str_to_ascii_lowercase bytes
+pub lower-lower : (bytes : List ℕ) → str_to_ascii_lowercase (str_to_ascii_lowercase bytes) ≡ str_to_ascii_lowercase bytes
 lower-lower [] = refl
 lower-lower (b ∷ bytes) = rw (twice b, lower-lower bytes) refl
 

@@ -1,3 +1,5 @@
 pub mod Limits
 pub mod Lists
 pub mod Names
+pub mod Orders
+pub mod Values

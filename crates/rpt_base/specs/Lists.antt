@@ -1,5 +1,10 @@
--- Lists whose members may be missing.
-use Rattle.std.specs.Prelude.{List, [], ◌∷◌, Option, None, Some}
+-- Members of a list, and lists whose members may be missing.
+use Rattle.std.specs.Prelude.{ℕ, ◌==◌, Bool, List, [], ◌∷◌, Option, None, Some}
+use Rattle.std.specs.List.{list_any}
+
+-- x is one of xs
+abbrev pub has : ℕ → List ℕ → Bool
+has x xs = list_any (λ y. x == y) xs
 
 -- all members, where none is missing
 abbrev pub all_of : {X : Type 0} → List (Option X) → Option (List X)

@@ -5,6 +5,7 @@
 //! a name is one that the language allows, in lower case, and values and cells stand in one order.
 #![tactic(auto)]
 
+mod comparisons;
 mod filters;
 pub mod limits;
 mod lists;
@@ -13,6 +14,7 @@ mod sets;
 mod texts;
 mod values;
 
+pub use comparisons::Comparison;
 pub use filters::FilterKind;
 pub use lists::Listed;
 pub use names::Name;

@@ -14,6 +14,12 @@ pub const MAX_ROWS: u32 = 8_388_608;
 /// The columns of a table.
 pub const MAX_COLUMNS: u32 = 64;
 
+/// The bytes of a name.
+pub const MAX_NAME_BYTES: usize = 63;
+
+/// The levels of a script, one inside of the other.
+pub const MAX_LEVELS: u32 = 64;
+
 /// The relations of a query.
 pub const MAX_RELATIONS: u32 = 16;
 

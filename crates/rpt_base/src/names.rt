@@ -4,6 +4,7 @@ ghost use Rattle.std.specs.Str.{IsUtf8, is_utf8, str_to_ascii_lowercase};
 ghost use Rattle.std.specs.List.{list_all};
 ghost use Rattle.rpt_base.specs.Names.{is_name, is_name_byte};
 
+use crate::limits::MAX_NAME_BYTES;
 use crate::texts::Memory;
 use std::alloc::Global;
 use std::marker::Model;
@@ -27,10 +28,9 @@ impl Model for Name {
 
     ghost view = { λ n. string_bytes n.text };
 
-    ghost invariant = { λ n. IsTrue (is_name (string_bytes n.text)) × (str_to_ascii_lowercase (string_bytes n.text) ≡ string_bytes n.text) };
+    ghost invariant = { λ n. IsTrue (is_name (string_bytes n.text))
+        × (str_to_ascii_lowercase (string_bytes n.text) ≡ string_bytes n.text) };
 }
-
-const MAX_NAME_BYTES: usize = 63;
 
 impl Name {
     /// Whether these bytes may be a name.
@@ -51,10 +51,8 @@ impl Name {
         let Ok(text) = str::from_utf8(bytes) else {
             unreachable!()
         };
-        match text.to_ascii_lowercase(alloc) {
-            Ok(text) => Ok(Name { text }),
-            Err(_) => Err(Memory),
-        }
+        let text = text.to_ascii_lowercase(alloc)?;
+        Ok(Name { text })
     }
 
     /// The bytes of the name.
@@ -78,10 +76,8 @@ impl Name {
     pub fn copy(&self, alloc: Global) -> Result<Name, Memory>
         ensures { IfOk result (λ n. n ≡ self.now) }
     {
-        match String::from_str(alloc, self.text.as_str()) {
-            Ok(text) => Ok(Name { text }),
-            Err(_) => Err(Memory),
-        }
+        let text = String::from_str(alloc, self.text.as_str())?;
+        Ok(Name { text })
     }
 }
 

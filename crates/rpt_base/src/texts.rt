@@ -7,7 +7,7 @@ ghost use Rattle.std.specs.Cmp.{partial_order_from_own_ties};
 ghost use Rattle.std.specs.Cmp.Rules.{comparing};
 ghost use Rattle.std.proofs.Common.{rules};
 
-use std::alloc::Global;
+use std::alloc::{AllocError, AllocFailed, Global};
 use std::cmp::Ordering;
 use std::marker::Model;
 use std::str;
@@ -15,6 +15,18 @@ use std::str;
 /// Want of memory. It is the one answer that a call may always give.
 #[derive(Clone, Copy, Debug, PartialEq, Eq)]
 pub struct Memory;
+
+impl From<AllocError> for Memory {
+    fn from(_error: AllocError) -> Memory {
+        Memory
+    }
+}
+
+impl<T: Drop> From<AllocFailed<T>> for Memory {
+    fn from(_failed: AllocFailed<T>) -> Memory {
+        Memory
+    }
+}
 
 /// Why there is no text.
 #[derive(Clone, Copy, Debug, PartialEq, Eq)]
@@ -59,10 +71,8 @@ impl Str {
     pub fn from_text(alloc: Global, text: &str) -> Result<Str, Memory>
         ensures { IfOk result (λ s. s ≡ text.now) }
     {
-        match String::from_str(alloc, text) {
-            Ok(text) => Ok(Str { text }),
-            Err(_) => Err(Memory),
-        }
+        let text = String::from_str(alloc, text)?;
+        Ok(Str { text })
     }
 
     /// The text.

@@ -2,9 +2,10 @@
 use Rattle.std.proofs.Common.{◌≡◌, ◌∙◌, ◌⊎◌, inl, inr, ℕ, ◌-◌, List, [], ◌∷◌, ◌++◌, Bool, true, false, refl, sym, ap, subst, arith}
 use Rattle.std.specs.Prelude.{IfSome, IsSome, MatchResult, Option, Some, None, Result, Ok, Err, nat_lt, length, sum, if◌then◌else◌, ⊤}
 use Rattle.rpt_outside.specs.Causes.{Rose}
+use Rattle.rpt_outside.specs.Seen.{FilesSeen, SinkSeen}
 use Rattle.rpt_base.specs.declared.values.Value.{Value}
-use Rattle.csv_load.specs.declared.refusal.LoadError.{LoadError}
-use Rattle.csv_load.specs.declared.refusal.LoadError.TheVariants as load_error
+use Rattle.csv_load.specs.declared.errors.LoadError.{LoadError}
+use Rattle.csv_load.specs.declared.errors.LoadError.TheVariants as load_error
 use Rattle.column_table.specs.Table.{Rows, types_of}
 use Rattle.column_table.specs.declared.declared.Decl.{Decl}
 use Rattle.csv_load.specs.FileTable.{file_table}
@@ -17,8 +18,8 @@ use Rattle.rpt_base.specs.declared.filters.FilterKind.{FilterKind}
 use Rattle.rpt_base.specs.declared.limits.TheConstants.{MAX_ROWS, MAX_SCRIPT_BYTES}
 use Rattle.rpt_engine.specs.Joins.{overflow_of}
 use Rattle.rpt_engine.specs.declared.planning.Plan.{Plan}
-use Rattle.refusal_lines.specs.declared.refusal.Refusal.{Refusal}
-use Rattle.refusal_lines.specs.declared.refusal.Refusal.TheVariants.{Usage, ReadFault, TooLarge, Lex, Syntax, TooDeep, Bind, Cyclic, OrderNames, UnsafeOrder, Header, Ragged, BadField, NotUtf8, TooManyRows, RowsOverflow, WriteFault, Memory}
+use Rattle.refusal_lines.specs.declared.errors.Refusal.{Refusal}
+use Rattle.refusal_lines.specs.declared.errors.Refusal.TheVariants.{Usage, ReadFault, TooLarge, Lex, Syntax, TooDeep, Bind, Cyclic, OrderNames, UnsafeOrder, Header, Ragged, BadField, NotUtf8, TooManyRows, RowsOverflow, WriteFault, Memory}
 use Rattle.command_words.specs.declared.words.Command.{Command}
 use Rattle.command_words.specs.Words.{command_of}
 use Rattle.rpt_cli.specs.Scripts.{IsScript}
@@ -126,18 +127,18 @@ module _ (given : Option (List ℕ)) where
   script-refusal bytes Memory h = tt
 
   -- a course that ends so leads to no usage and no fault but of a file that it asks for, whose count rose
-  Leads-tells : (missing : List ℕ → Bool) (told : List ℕ → Option (List ℕ)) (before now : List ℕ → ℕ) (course : Course) (answer : Answer) → EndsOverContents given course
-      → Leads missing told before now course answer → IsOverContents given answer ⊎ ((name : List ℕ) × (answer ≡ Err (ReadFault name)) × Rose (before name) (now name))
-  Leads-tells missing told before now (Ends end) answer p e = inl (subst (IsOverContents given) (sym e) p)
-  Leads-tells missing told before now (Asks name next) answer p (inl fault) = inr (name, fault.0, fault.1)
-  Leads-tells missing told before now (Asks name next) answer p (inr read) = Leads-tells missing told before now (next read.0) answer (p read.0) read.2
-  Leads-tells missing told before now (Finds matter next) answer p l = by l.0 l.1.0 (λ x. Leads-tells missing told before now (next x) answer (p.1 x)) l.2
+  Leads-tells : (files : FilesSeen) (course : Course) (answer : Answer) → EndsOverContents given course
+      → Leads files course answer → IsOverContents given answer ⊎ ((name : List ℕ) × (answer ≡ Err (ReadFault name)) × Rose (files.before name) (files.now name))
+  Leads-tells files (Ends end) answer p e = inl (subst (IsOverContents given) (sym e) p)
+  Leads-tells files (Asks name next) answer p (inl fault) = inr (name, fault.0, fault.1)
+  Leads-tells files (Asks name next) answer p (inr read) = Leads-tells files (next read.0) answer (p read.0) read.2
+  Leads-tells files (Finds matter next) answer p l = by l.0 l.1.0 (λ x. Leads-tells files (next x) answer (p.1 x)) l.2
     where
       Told : Type 0
-      Told = IsOverContents given answer ⊎ ((name : List ℕ) × (answer ≡ Err (ReadFault name)) × Rose (before name) (now name))
+      Told = IsOverContents given answer ⊎ ((name : List ℕ) × (answer ≡ Err (ReadFault name)) × Rose (files.before name) (files.now name))
 
-      by : (r : Result (Found matter) Refusal) → IsFound matter r → ((x : Found matter) → Leads missing told before now (next x) answer → Told)
-          → MatchResult r (λ x. Leads missing told before now (next x) answer) (λ e. answer ≡ Err e) → Told
+      by : (r : Result (Found matter) Refusal) → IsFound matter r → ((x : Found matter) → Leads files (next x) answer → Told)
+          → MatchResult r (λ x. Leads files (next x) answer) (λ e. answer ≡ Err e) → Told
       by (Ok x) said more m = more x m
       by (Err e) said more m = inl (subst (IsOverContents given) (sym m) (p.0 e said))
 
@@ -177,16 +178,16 @@ command-ends : (command : Command) → EndsOverContents command.order (command_c
 command-ends command = either command.order (is_made command.mode) (sample_course command) (files_course command) (sample-ends command) (files-ends command)
 
 -- the same of the words' course, which ends at once with a usage where the words are no command
-abbrev Tells : (List ℕ → ℕ) → (List ℕ → ℕ) → Option Command → Answer → Type 0
-Tells before now None answer = answer ≡ Err Usage
-Tells before now (Some command) answer = IsOverContents command.order answer ⊎ ((name : List ℕ) × (answer ≡ Err (ReadFault name)) × Rose (before name) (now name))
+abbrev Tells : FilesSeen → Option Command → Answer → Type 0
+Tells files None answer = answer ≡ Err Usage
+Tells files (Some command) answer = IsOverContents command.order answer ⊎ ((name : List ℕ) × (answer ≡ Err (ReadFault name)) × Rose (files.before name) (files.now name))
 
-course-tells : (missing : List ℕ → Bool) (told : List ℕ → Option (List ℕ)) (before now : List ℕ → ℕ) (command : Option Command) (answer : Answer)
-    → Gives missing told before now (course_of command) answer → (answer ≡ Err Memory) ⊎ Tells before now command answer
-course-tells missing told before now command answer (inl memory) = inl memory
-course-tells missing told before now None answer (inr leads) = inr leads
-course-tells missing told before now (Some command) answer (inr leads) =
-    inr (Leads-tells command.order missing told before now (command_course command) answer (command-ends command) leads)
+course-tells : (files : FilesSeen) (command : Option Command) (answer : Answer)
+    → Gives files (course_of command) answer → (answer ≡ Err Memory) ⊎ Tells files command answer
+course-tells files command answer (inl memory) = inl memory
+course-tells files None answer (inr leads) = inr leads
+course-tells files (Some command) answer (inr leads) =
+    inr (Leads-tells command.order files (command_course command) answer (command-ends command) leads)
 
 -- what a status of an answer over contents tells
 pub record StatusOver (given : Option (List ℕ)) (status : ℕ) : Type 0 where
@@ -218,43 +219,41 @@ status-over given (RowsOverflow prefix) p = other-status given 10 (λ h. omega a
 status-over given Memory p = other-status given 1 (λ h. omega arith) (λ h. omega arith) (λ h. omega arith)
 
 -- what a status tells of the words and the counts
-pub record StatusTells (command : Option Command) (before now : List ℕ → ℕ) (out_before out_now status : ℕ) : Type 0 where
+pub record StatusTells {S : Type 0} (command : Option Command) (files : FilesSeen) (out : SinkSeen S) (status : ℕ) : Type 0 where
   pub usage : status ≡ 2 → IfSome command (λ c. IsSome c.order)
-  pub read_fault : status ≡ 3 → (name : List ℕ) × Rose (before name) (now name)
-  pub write_fault : status ≡ 4 → Rose out_before out_now
+  pub read_fault : status ≡ 3 → (name : List ℕ) × Rose (files.before name) (files.now name)
+  pub write_fault : status ≡ 4 → Rose out.before out.now
 
-delivered-tells : {S M : Type 0} (command : Option Command) (before now : List ℕ → ℕ) (taken : S → Option (List ℕ)) (faults : S → ℕ) (heard : M → Option (List ℕ)) (misses : M → ℕ)
-    (out_old out_new : S) (old new : M) (status : ℕ) (answer : Answer) → (answer ≡ Err Memory) ⊎ Tells before now command answer
-    → Delivers taken faults heard misses out_old out_new old new status answer
-    → StatusTells command before now (faults out_old) (faults out_new) status
-delivered-tells command before now taken faults heard misses out_old out_new old new status (Ok text) t (inl d) =
+delivered-tells : {S M : Type 0} (command : Option Command) (files : FilesSeen) (out : SinkSeen S) (messages : SinkSeen M) (status : ℕ) (answer : Answer) → (answer ≡ Err Memory) ⊎ Tells files command answer
+    → Delivers out messages status answer
+    → StatusTells command files out status
+delivered-tells command files out messages status (Ok text) t (inl d) =
     let zero : status ≡ 0 = d.0 in record { usage = λ h. absurd (omega arith); read_fault = λ h. absurd (omega arith); write_fault = λ h. absurd (omega arith) }
-delivered-tells command before now taken faults heard misses out_old out_new old new status (Ok text) t (inr d) =
+delivered-tells command files out messages status (Ok text) t (inr d) =
     let four : status ≡ 4 = d.0 in record { usage = λ h. absurd (omega arith); read_fault = λ h. absurd (omega arith); write_fault = λ h. d.1.rose }
-delivered-tells command before now taken faults heard misses out_old out_new old new status (Err e) (inl memory) d =
+delivered-tells command files out messages status (Err e) (inl memory) d =
     let is : e ≡ Memory = (let same : Err e ≡ Err Memory = memory in cc) in
     let one : status ≡ 1 = d.0 ∙ ap status_of is in
     record { usage = λ h. absurd (omega arith); read_fault = λ h. absurd (omega arith); write_fault = λ h. absurd (omega arith) }
-delivered-tells None before now taken faults heard misses out_old out_new old new status (Err e) (inr t) d =
+delivered-tells None files out messages status (Err e) (inr t) d =
     let is : e ≡ Usage = (let same : Err e ≡ Err Usage = t in cc) in
     let two : status ≡ 2 = d.0 ∙ ap status_of is in
     record { usage = λ h. tt; read_fault = λ h. absurd (omega arith); write_fault = λ h. absurd (omega arith) }
-delivered-tells (Some command) before now taken faults heard misses out_old out_new old new status (Err e) (inr (inl over)) d =
+delivered-tells (Some command) files out messages status (Err e) (inr (inl over)) d =
     let tells = status-over command.order e over in
     record {
       usage = λ h. tells.usage (sym d.0 ∙ h);
       read_fault = λ h. absurd (tells.no_read_fault (sym d.0 ∙ h));
       write_fault = λ h. absurd (tells.no_write_fault (sym d.0 ∙ h));
     }
-delivered-tells (Some command) before now taken faults heard misses out_old out_new old new status (Err e) (inr (inr fault)) d =
+delivered-tells (Some command) files out messages status (Err e) (inr (inr fault)) d =
     let is : e ≡ ReadFault fault.0 = (let same : Err e ≡ Err (ReadFault fault.0) = fault.1 in cc) in
     let three : status ≡ 3 = d.0 ∙ ap status_of is in
     record { usage = λ h. absurd (omega arith); read_fault = λ h. (fault.0, fault.2); write_fault = λ h. absurd (omega arith) }
 
-pub Answers-tells : {S M : Type 0} {missing : List ℕ → Bool} {told : List ℕ → Option (List ℕ)} {before now : List ℕ → ℕ} {taken : S → Option (List ℕ)} {faults : S → ℕ} {heard : M → Option (List ℕ)} {misses : M → ℕ}
-    {out_old out_new : S} {old new : M} {status : ℕ} (words : List (List ℕ))
-    → Answers missing told before now taken faults heard misses (course words) out_old out_new old new status
-    → StatusTells (command_of words) before now (faults out_old) (faults out_new) status
-Answers-tells {missing = missing} {told = told} {before = before} {now = now} {taken = taken} {faults = faults} {heard = heard} {misses = misses} {out_old = out_old} {out_new = out_new} {old = old} {new = new} {status = status} words r =
-    delivered-tells (command_of words) before now taken faults heard misses out_old out_new old new status r.answer
-    (course-tells missing told before now (command_of words) r.answer r.cause) r.delivered
+pub Answers-tells : {S M : Type 0} {files : FilesSeen} {out : SinkSeen S} {messages : SinkSeen M} {status : ℕ} (words : List (List ℕ))
+    → Answers files out messages (course words) status
+    → StatusTells (command_of words) files out status
+Answers-tells {files = files} {out = out} {messages = messages} {status = status} words r =
+    delivered-tells (command_of words) files out messages status r.answer
+    (course-tells files (command_of words) r.answer r.cause) r.delivered

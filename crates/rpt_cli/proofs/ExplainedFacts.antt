@@ -6,6 +6,7 @@ use Rattle.std.proofs.lemmas.List.{append-nil}
 use Rattle.rpt_base.specs.declared.limits.TheConstants.{MAX_ROWS, MAX_SCRIPT_BYTES}
 use Rattle.rpt_base.specs.declared.filters.FilterKind.{FilterKind}
 use Rattle.rpt_outside.specs.Causes.{Tells}
+use Rattle.rpt_outside.specs.Seen.{FilesSeen}
 use Rattle.column_table.specs.Table.{Rows}
 use Rattle.column_table.specs.declared.declared.Decl.{Decl}
 use Rattle.bound_query.specs.Query.{BoundQuery}
@@ -13,8 +14,8 @@ use Rattle.bound_query.specs.Answer.{counts_of}
 use Rattle.rpt_engine.specs.Joins.{overflow_of, sizes_of}
 use Rattle.rpt_engine.specs.Planned.{IsPlan}
 use Rattle.rpt_engine.specs.declared.planning.Plan.{Plan}
-use Rattle.refusal_lines.specs.declared.refusal.Refusal.{Refusal}
-use Rattle.refusal_lines.specs.declared.refusal.Refusal.TheVariants.{ReadFault, RowsOverflow, TooLarge, TooManyRows}
+use Rattle.refusal_lines.specs.declared.errors.Refusal.{Refusal}
+use Rattle.refusal_lines.specs.declared.errors.Refusal.TheVariants.{ReadFault, RowsOverflow, TooLarge, TooManyRows}
 use Rattle.command_words.specs.declared.words.Command.{Command}
 use Rattle.command_words.specs.declared.words.Mode.{Mode}
 use Rattle.command_words.specs.declared.words.Mode.TheVariants as mode
@@ -24,13 +25,13 @@ use Rattle.rpt_cli.specs.Tables.{table_file, table_of}
 use Rattle.rpt_cli.specs.Command.{asks_within, bytes_course, command_course, explain_course, explain_text, files_course, is_made, join_course, mode_course, most_table_bytes, query_course, query_of_script, sample_course, tables_course, unless_overflow}
 use Rattle.rpt_cli.specs.Explained.{AreLoaded, IsRunOf}
 
-module _ (missing : List ℕ → Bool) (told : List ℕ → Option (List ℕ)) (before now : List ℕ → ℕ) (text : List ℕ) where
+module _ (files : FilesSeen) (text : List ℕ) where
   -- the course leads to the text
   abbrev Says : Course → Type 0
-  Says course = Leads missing told before now course (Ok text)
+  Says course = Leads files course (Ok text)
 
   -- a file was read within its limit
-  asked : (limit : ℕ) (name : List ℕ) (next : List ℕ → Course) → Says (asks_within limit name next) → (bytes : List ℕ) × Tells (told name) bytes × Says (next bytes)
+  asked : (limit : ℕ) (name : List ℕ) (next : List ℕ → Course) → Says (asks_within limit name next) → (bytes : List ℕ) × Tells (files.told name) bytes × Says (next bytes)
   asked limit name next (inl p) = absurd (let e : Ok text ≡ Err (ReadFault name) = p.0 in cc)
   asked limit name next (inr p) = (p.0, p.1.contents, by (nat_lt limit (length p.0)) p.2)
     where
@@ -53,7 +54,7 @@ module _ (missing : List ℕ → Bool) (told : List ℕ → Option (List ℕ)) (
 
   -- each table was loaded from its file
   loaded : (folder : List ℕ) (next : List Rows → Course) (room : ℕ) (tables : List Rows) (decls : List Decl) → Says (tables_course folder next room tables decls)
-      → (more : List Rows) × AreLoaded told folder decls more × Says (next (tables ++ more))
+      → (more : List Rows) × AreLoaded files.told folder decls more × Says (next (tables ++ more))
   loaded folder next room tables [] l = ([], tt, subst (λ (ts : List Rows). Says (next ts)) (sym (append-nil tables)) l)
   loaded folder next room tables (decl ∷ decls) l =
       let file = asked room (table_file folder decl.name) (λ bytes. goes_on (table_of decl bytes) (λ table. tables_course folder next (room - length bytes) (tables ++ table ∷ []) decls)) l in
@@ -95,7 +96,7 @@ module _ (missing : List ℕ → Bool) (told : List ℕ → Option (List ℕ)) (
 
   -- so the command has a run that the text explains
   pub explained : (command : Command) → command.mode ≡ mode.Explain → Says (command_course command)
-      → (bound : BoundQuery) × (tables : List Rows) × (plan : Plan) × IsRunOf told command bound tables plan × (text ≡ explain_text command.filter bound tables plan)
+      → (bound : BoundQuery) × (tables : List Rows) × (plan : Plan) × IsRunOf files.told command bound tables plan × (text ≡ explain_text command.filter bound tables plan)
   explained command is l =
       let filter = command.filter in
       let file = asked MAX_SCRIPT_BYTES command.script (λ bytes. bytes_course bytes (query_course command)) (from_files command is l) in

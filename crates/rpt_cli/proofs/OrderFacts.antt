@@ -1,14 +1,10 @@
 -- The pieces of a text, and orders of relations.
-use Rattle.std.proofs.Common.{◌≡◌, ◌∙◌, ◌⊎◌, inl, inr, ap, sym, subst, refl, ℕ, ◌+◌, ◌<◌, ◌≤◌, suc, Bool, true, false, not, ◌&&◌, List, [], ◌∷◌, ◌++◌, length, map, take, drop, get_or, nat_lt, eqb, append_assoc, arith}
+use Rattle.std.proofs.Common.{◌≡◌, ◌∙◌, ◌⊎◌, inl, inr, ap, sym, subst, refl, ℕ, ◌+◌, ◌<◌, ◌≤◌, suc, Bool, true, false, not, ◌&&◌, List, [], ◌∷◌, ◌++◌, length, map, take, drop, get_or, nat_lt, append_assoc, arith}
 use Rattle.std.specs.Prelude.{Option, None, Some, position, if◌then◌else◌}
-use Rattle.std.specs.List.{list_all, position_or_len, range_with_len}
-use Rattle.std.proofs.lemmas.Bool.{cases_order, ltb-false, ltb-true}
+use Rattle.std.specs.List.{position_or_len}
+use Rattle.std.proofs.lemmas.Bool.{cases_order, ltb-false}
 use Rattle.std.proofs.lemmas.List.Sums.{prefix_len-le-length}
-use Rattle.std.proofs.lemmas.List.Folds.{list_all_at, list_any_at}
-use Rattle.std.proofs.lemmas.List.FromFn.{get_or-range_with_len, length-range_with_len}
-use Rattle.join_graph.specs.JoinList.{everyone, has}
-use Rattle.safe_subjoin.specs.SafeOrder.{IsOrder}
-use Rattle.rpt_cli.specs.Orders.{is_comma, is_order, onto, pieces_of}
+use Rattle.rpt_cli.specs.Orders.{is_comma, onto, pieces_of}
 
 -- a text without a comma is one piece
 pub pieces-last : (text : List ℕ) → position_or_len is_comma text ≡ length text → pieces_of text ≡ text ∷ []
@@ -45,55 +41,6 @@ pieces-cut (c ∷ text) i at lt = by (is_comma c) refl (λ within. pieces-cut te
         subst (λ (n : ℕ). (if is_comma c then [] ∷ pieces_of text else onto c (pieces_of text)) ≡ take n (c ∷ text) ∷ pieces_of (drop (n + 1) (c ∷ text))) is
         (rw (e, rest) (ap (λ (n : ℕ). take (suc (position_or_len is_comma text)) (c ∷ text) ∷ pieces_of (drop n (c ∷ text))) behind))
 
--- what is tested is an order of the relations
-pub is_order-IsOrder : (n : ℕ) (order : List ℕ) → is_order n order ≡ true → IsOrder n order
-is_order-IsOrder n order holds =
-    let long : eqb (length order) n ≡ true = and-left _ _ holds in
-    let rest : (list_all (λ r. nat_lt r n) order && list_all (λ r. has r order) (range_with_len 0 n)) ≡ true = and-right (eqb (length order) n) _ holds in
-    let below = and-left (list_all (λ r. nat_lt r n) order) (list_all (λ r. has r order) (range_with_len 0 n)) rest in
-    let all = and-right (list_all (λ r. nat_lt r n) order) (list_all (λ r. has r order) (range_with_len 0 n)) rest in
-    record { count = grind arith; all = λ r. each r (cases_le n r) below all }
-  where
-    and-left : (a b : Bool) → (a && b) ≡ true → a ≡ true
-    and-left true b e = refl
-    and-left false b e = cc e
-
-    and-right : (a b : Bool) → (a && b) ≡ true → b ≡ true
-    and-right true b e = e
-    and-right false b e = cc e
-
-    -- a number that is too large is not among smaller ones
-    not-among : (r : ℕ) (order : List ℕ) → n ≤ r → list_all (λ s. nat_lt s n) order ≡ true → has r order ≡ false
-    not-among r [] large below = refl
-    not-among r (s ∷ order) large below =
-        let here = and-left (nat_lt s n) (list_all (λ t. nat_lt t n) order) below in
-        let other : eqb r s ≡ false = grind arith in
-        rw (other, not-among r order large (and-right (nat_lt s n) (list_all (λ t. nat_lt t n) order) below)) refl
-
-    cases_le : (a b : ℕ) → (b < a) ⊎ (a ≤ b)
-    cases_le a b = by (cases_order a b)
-      where
-        by : (a ≡ b) ⊎ ((a < b) ⊎ (b < a)) → (b < a) ⊎ (a ≤ b)
-        by (inl same) = inr (omega arith)
-        by (inr (inl lt)) = inr (omega arith)
-        by (inr (inr lt)) = inl lt
-
-    each : (r : ℕ) → (r < n) ⊎ (n ≤ r) → list_all (λ s. nat_lt s n) order ≡ true → list_all (λ s. has s order) (range_with_len 0 n) ≡ true → has r order ≡ everyone n r
-    each r (inl lt) below all =
-        let at : get_or (range_with_len 0 n) r 0 ≡ r = get_or-range_with_len 0 n r 0 lt ∙ (omega arith) in
-        let below_n : nat_lt r n ≡ true = grind arith in
-        stands (has r order) refl at all ∙ sym below_n
-      where
-        stands : (b : Bool) → has r order ≡ b → get_or (range_with_len 0 n) r 0 ≡ r → list_all (λ s. has s order) (range_with_len 0 n) ≡ true → has r order ≡ true
-        stands true e at all = e
-        stands false e at all =
-            let none : list_all (λ s. has s order) (range_with_len 0 n) ≡ false =
-            list_all_at (λ s. has s order) (range_with_len 0 n) r 0 (omega (arith, length-range_with_len 0 n)) (ap (λ s. has s order) at ∙ e) in
-            absurd (let no : true ≡ false = sym all ∙ none in cc)
-    each r (inr large) below all =
-        let out : nat_lt r n ≡ false = grind arith in
-        not-among r order large below ∙ sym out
-
 -- a test that fails at the first places, and at one more
 pub none-more : (p : List ℕ → Bool) (names : List (List ℕ)) (i : ℕ) → ((k : ℕ) → k < i → p (get_or names k []) ≡ false) → p (get_or names i []) ≡ false
     → (k : ℕ) → k < i + 1 → p (get_or names k []) ≡ false
@@ -129,15 +76,3 @@ named-last f text rest order after found before is none pushed =
     let at = place-none (nat_lt (position_or_len is_comma rest) (length rest)) (position_or_len is_comma rest) (sym is ∙ none) in
     let all : position_or_len is_comma rest ≡ length rest = omega (arith, ltb-false (position_or_len is_comma rest) (length rest) at, prefix_len-le-length (λ c. not (is_comma c)) rest) in
     pushed ∙ sym (before ∙ ap (λ (ps : List (List ℕ)). order ++ map f ps) (pieces-last rest all))
-
--- the members of an order are relations
-pub order-below : (n : ℕ) (order : List ℕ) → IsOrder n order → (k d : ℕ) → k < length order → get_or order k d < n
-order-below n order is k d lt =
-    let there : has (get_or order k d) order ≡ true = has-at order k d lt in
-    let below : nat_lt (get_or order k d) n ≡ true = sym (is.all (get_or order k d)) ∙ there in
-    ltb-true (get_or order k d) n below
-  where
-    has-at : (xs : List ℕ) (k d : ℕ) → k < length xs → has (get_or xs k d) xs ≡ true
-    has-at xs k d lt =
-        let same : eqb (get_or xs k d) (get_or xs k d) ≡ true = grind arith in
-        list_any_at (λ y. eqb (get_or xs k d) y) xs k d lt same

@@ -1,15 +1,15 @@
 -- That a course has one outcome, and that the course of a command has one.
-use Rattle.std.proofs.Common.{◌≡◌, ◌∙◌, ◌⊎◌, inl, inr, refl, sym, ap, subst, ℕ, ◌-◌, ◌≤◌, List, [], ◌∷◌, ◌++◌, length, map, arith}
+use Rattle.std.proofs.Common.{◌≡◌, ◌∙◌, ◌⊎◌, inl, inr, refl, sym, subst, ℕ, ◌-◌, ◌≤◌, List, [], ◌∷◌, ◌++◌, length, map, arith}
 use Rattle.std.specs.Prelude.{Bool, true, false, IfSome, IsSome, MatchResult, Option, None, Some, Result, Ok, Err, if◌then◌else◌, nat_lt, sum, ⊤}
 use Rattle.rpt_base.specs.declared.filters.FilterKind.{FilterKind}
-use Rattle.rpt_base.specs.declared.limits.TheConstants.{MAX_ROWS, MAX_SCRIPT_BYTES}
+use Rattle.rpt_base.specs.declared.limits.TheConstants.{MAX_ROWS, MAX_SCRIPT_BYTES, MAX_LEVELS}
 use Rattle.rpt_base.specs.declared.values.Value.{Value}
 use Rattle.column_table.specs.Table.{Rows, types_of}
 use Rattle.column_table.specs.declared.declared.Decl.{Decl}
 use Rattle.csv_load.specs.FileTable.{file_table}
-use Rattle.csv_load.specs.declared.refusal.LoadError.{LoadError}
-use Rattle.sql_lex.specs.declared.tokens.LexError.{LexError}
-use Rattle.sql_lex.specs.declared.tokens.LexError.TheVariants as lex_error
+use Rattle.csv_load.specs.declared.errors.LoadError.{LoadError}
+use Rattle.sql_lex.specs.declared.errors.LexError.{LexError}
+use Rattle.sql_lex.specs.declared.errors.LexError.TheVariants as lex_error
 use Rattle.sql_lex.specs.declared.tokens.Token.{Token}
 use Rattle.sql_lex.specs.Lexing.{lexed}
 use Rattle.sql_lex.specs.Tokens.{IsBadAt, IsTokenList}
@@ -32,7 +32,8 @@ use Rattle.binder.specs.Binding.{query_of}
 use Rattle.binder.proofs.BoundFacts.{query_of-IsBound}
 use Rattle.join_graph.specs.JoinList.{IsAcyclic, IsGraph}
 use Rattle.largest_root.specs.Greedy.{IsCyclic}
-use Rattle.safe_subjoin.specs.SafeOrder.{IsFirstUnsafe, IsOrder}
+use Rattle.safe_subjoin.specs.SafeOrder.{IsFirstUnsafe}
+use Rattle.rpt_base.specs.Orders.{IsOrder, is_order}
 use Rattle.rpt_engine.specs.Joins.{overflow_of, sizes_of}
 use Rattle.rpt_engine.specs.Planned.{IsPlan, no_sizes}
 use Rattle.rpt_engine.specs.Prepared.{IsAccepted}
@@ -41,18 +42,18 @@ use Rattle.command_words.specs.declared.words.Command.{Command}
 use Rattle.command_words.specs.declared.words.Mode.{Mode}
 use Rattle.command_words.specs.declared.words.Mode.TheVariants as mode
 use Rattle.command_words.specs.Words.{command_of}
-use Rattle.refusal_lines.specs.declared.refusal.Refusal.{Refusal}
-use Rattle.refusal_lines.specs.declared.refusal.Refusal.TheVariants.{Usage, TooLarge, Lex, Cyclic, OrderNames, UnsafeOrder, TooManyRows, Memory}
+use Rattle.refusal_lines.specs.declared.errors.Refusal.{Refusal}
+use Rattle.refusal_lines.specs.declared.errors.Refusal.TheVariants.{TooLarge, Lex, Cyclic, OrderNames, UnsafeOrder, TooManyRows, Memory}
 use Rattle.rpt_cli.specs.Course.{Answer, Asks, Course, Ends, Finds, IsOutcome, goes_on, over_files}
 use Rattle.rpt_cli.specs.Command.{answer_text, bytes_course, command_course, course, course_of, explain_text, files_course, is_made, join_course, mode_course, most_table_bytes, number_of, query_course, query_or, sample_course, summary_text, tables_course, unless_overflow}
 use Rattle.rpt_cli.specs.Matters.{AreKnown, Found, IsFound, IsPlanned, IsPrepared, Matter, Planning, Prepared, Preparing, Reading}
-use Rattle.rpt_cli.specs.Orders.{is_order, named_order, order_of, pieces_of, relation_named}
+use Rattle.rpt_cli.specs.Orders.{named_order, order_of, pieces_of, relation_named}
 use Rattle.rpt_cli.specs.Sample.{file_bytes}
 use Rattle.rpt_cli.specs.Scripts.{IsScript}
 use Rattle.rpt_cli.specs.Tables.{table_file, table_or}
 use Rattle.sample_gen.specs.Script.{sample_script}
 use Rattle.sample_gen.specs.Tables.{sample_tables}
-use Rattle.rpt_cli.proofs.OrderFacts.{is_order-IsOrder}
+use Rattle.rpt_base.proofs.OrderFacts.{is_order-IsOrder}
 use Rattle.rpt_cli.proofs.PlannedFacts.{HasOnePlan, planned-only}
 use Rattle.rpt_cli.proofs.PreparedFacts.{HasOneReason, prepared-only}
 use Rattle.rpt_cli.proofs.ScriptFacts.{answer_of, bad-only, read-only}
@@ -75,7 +76,7 @@ pub record HasReadings : Type 0 where
 
 module _ (laws : HasReadings) where
   -- bytes with tokens are what their tokens are read as
-  read-tokens : (bytes : List ℕ) (tokens : List Token) → lexed bytes ≡ Ok tokens → (answer : Result Script ParseError) → IsReading 64 tokens (length bytes) answer → IsReadAs bytes
+  read-tokens : (bytes : List ℕ) (tokens : List Token) → lexed bytes ≡ Ok tokens → (answer : Result Script ParseError) → IsReading MAX_LEVELS tokens (length bytes) answer → IsReadAs bytes
   read-tokens bytes tokens e answer is = by answer is (λ said h. read-only bytes tokens answer same good (λ other o. inr (laws.one 64 (length bytes) tokens answer other is o)) said h)
     where
       same : (others : List Token) → IsTokenList bytes others → tokens ≡ others
@@ -84,7 +85,7 @@ module _ (laws : HasReadings) where
       good : (offset : ℕ) → IsBadAt bytes offset → ⊥
       good offset bad = let no : ◌≡◌ {A = Result (List Token) LexError} (Ok tokens) (Err (lex_error.At offset)) = sym e ∙ laws.refused bytes offset bad in cc
 
-      by : (r : Result Script ParseError) → IsReading 64 tokens (length bytes) r
+      by : (r : Result Script ParseError) → IsReading MAX_LEVELS tokens (length bytes) r
           → ((said : Result Script Refusal) → IsScript bytes said → (answer_of r ≡ Err Memory) ⊎ (answer_of r ≡ said)) → IsReadAs bytes
       by (Ok script) reads more = record { found = Ok script; is = (tokens, laws.is_listed bytes tokens e, reads); only = λ said h. elim (more said h) [ inl m ↦ absurd (cc m) | inr s ↦ s ] }
       by (Err (parse_error.Syntax at)) reads more =

@@ -1,11 +1,11 @@
 -- That a query is planned in one way, and what its report is.
-use Rattle.std.proofs.Common.{Bool, ◌≡◌, inr, ap, subst, ℕ, List}
+use Rattle.std.proofs.Common.{◌≡◌, inr, ap, subst, ℕ, List}
 use Rattle.std.specs.Prelude.{None, Option, Result, Ok, Err}
 use Rattle.bound_query.specs.Query.{BoundQuery}
 use Rattle.plan_report.specs.Report.{report_of}
 use Rattle.rpt_engine.specs.Planned.{IsPlan, no_sizes}
 use Rattle.rpt_engine.specs.declared.planning.Plan.{Plan}
-use Rattle.refusal_lines.specs.declared.refusal.Refusal.{Refusal}
+use Rattle.refusal_lines.specs.declared.errors.Refusal.{Refusal}
 use Rattle.rpt_cli.specs.Command.{check_course}
 use Rattle.rpt_cli.specs.Course.{Ends}
 use Rattle.rpt_cli.specs.Matters.{IsPlanned, Planning}
@@ -29,8 +29,8 @@ plan-unsized graph sets sizes order plan g s is =
 -- the report of a plan ends the course
 pub report-Gives : HasOnePlan → (bound : BoundQuery) (order : Option (List ℕ)) (plan : Plan) (text : List ℕ) → IsPlan bound.known.sets (no_sizes bound.known.sets) order plan
     → text ≡ report_of bound.query bound.known plan.tree plan.order plan.lists None → GivesUnasked (check_course bound order) (Ok text)
-report-Gives one bound order plan text planned is = λ missing told before now.
-    finds-Gives missing told before now (Planning bound.known.sets (no_sizes bound.known.sets) order)
+report-Gives one bound order plan text planned is = λ files.
+    finds-Gives files (Planning bound.known.sets (no_sizes bound.known.sets) order)
     (λ (found : Plan). Ends (Ok (report_of bound.query bound.known found.tree found.order found.lists None))) plan (Ok text)
     (planned, λ other other_is. planned-only one bound.known.sets (no_sizes bound.known.sets) order (Ok plan) other planned other_is)
     (inr (ap Ok is))

@@ -1,5 +1,5 @@
 -- That there is one way in which a query is prepared or refused.
-use Rattle.std.proofs.Common.{◌≡◌, ◌∙◌, ◌⊎◌, inl, inr, ap, sym, subst, refl, ℕ, ◌<◌, List, length}
+use Rattle.std.proofs.Common.{◌≡◌, ◌∙◌, ◌⊎◌, inl, inr, ap, sym, subst, refl, ℕ, ◌<◌, List}
 use Rattle.std.specs.Prelude.{Bool, true, false, Option, None, Some, Result, Ok, Err}
 use Rattle.column_classes.specs.Variables.{AreQueryVariables, QueryVariables}
 use Rattle.column_classes.specs.declared.columns.Equality.{Equality}
@@ -9,8 +9,8 @@ use Rattle.safe_subjoin.specs.SafeOrder.{IsFirstUnsafe}
 use Rattle.rpt_engine.specs.Prepared.{IsAllowed, IsUnsafeAt}
 use Rattle.rpt_cli.specs.Steps.{PassesUnasked, StopsUnasked}
 use Rattle.bound_query.specs.Query.{Query, widths_of}
-use Rattle.refusal_lines.specs.declared.refusal.Refusal.{Refusal}
-use Rattle.refusal_lines.specs.declared.refusal.Refusal.TheVariants.{Usage, ReadFault, TooLarge, Lex, Syntax, TooDeep, Bind, Cyclic, OrderNames, UnsafeOrder, Header, Ragged, BadField, NotUtf8, TooManyRows, RowsOverflow, WriteFault, Memory}
+use Rattle.refusal_lines.specs.declared.errors.Refusal.{Refusal}
+use Rattle.refusal_lines.specs.declared.errors.Refusal.TheVariants.{Usage, ReadFault, TooLarge, Lex, Syntax, TooDeep, Bind, Cyclic, OrderNames, UnsafeOrder, Header, Ragged, BadField, NotUtf8, TooManyRows, RowsOverflow, WriteFault, Memory}
 use Rattle.rpt_cli.specs.Course.{Finds, IsFoundAs}
 use Rattle.rpt_cli.specs.Matters.{AreKnown, IsPrepared, Prepared, Preparing}
 use Rattle.rpt_cli.specs.Orders.{order_of}
@@ -117,11 +117,11 @@ module _ (laws : HasOneReason) (query : Query) (order : Option (List ℕ)) (forc
 -- a query that is prepared is passed, and one that is refused ends the course
 module _ (laws : HasOneReason) (query : Query) (order : Option (List ℕ)) (force : Bool) where
   pub prepared-Passes : (found : Prepared) → IsPrepared query order force (Ok found) → PassesUnasked (Finds (Preparing query order force)) found
-  prepared-Passes found is = λ missing told before end next answer gives.
-      finds-Gives missing told before end (Preparing query order force) next found answer (is, λ other other_is. prepared-only laws query order force (Ok found) other is other_is) gives
+  prepared-Passes found is = λ files next answer gives.
+      finds-Gives files (Preparing query order force) next found answer (is, λ other other_is. prepared-only laws query order force (Ok found) other is other_is) gives
 
   pub prepared-Stops : (e : Refusal) → (e ≡ Memory) ⊎ IsPrepared query order force (Err e) → StopsUnasked (Finds (Preparing query order force)) e
-  prepared-Stops e is = λ missing told before end next. refuses-Gives missing told before end (Preparing query order force) next e (found is)
+  prepared-Stops e is = λ files next. refuses-Gives files (Preparing query order force) next e (found is)
     where
       found : (e ≡ Memory) ⊎ IsPrepared query order force (Err e) → (e ≡ Memory) ⊎ IsFoundAs (Preparing query order force) (Err e)
       found (inl memory) = inl memory

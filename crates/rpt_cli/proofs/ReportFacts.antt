@@ -5,13 +5,13 @@ use Rattle.std.specs.List.{All, range_with_len}
 use Rattle.std.proofs.lemmas.List.Elements.{Contains-get_or}
 use Rattle.std.proofs.lemmas.List.FromFn.{length-map-range_with_len}
 use Rattle.column_table.specs.Table.{Rows}
-use Rattle.column_table.proofs.ListFacts.{map-range}
+use Rattle.rpt_base.proofs.RangeFacts.{map-range}
 use Rattle.bound_query.specs.Query.{BoundQuery}
 use Rattle.bound_query.specs.Answer.{counts_of}
 use Rattle.join_graph.specs.declared.tree.Tree.{Tree}
 use Rattle.join_graph.specs.JoinList.{HasParents}
-use Rattle.safe_subjoin.specs.SafeOrder.{IsListOf, IsOrder}
-use Rattle.join_laws.specs.Order.{HasEachOnce}
+use Rattle.safe_subjoin.specs.SafeOrder.{IsListOf}
+use Rattle.rpt_base.specs.Orders.{IsOrder}
 use Rattle.join_laws.specs.Selected.{selected_rows}
 use Rattle.plan_report.specs.Report.{AreLists, RunCounts, report_of}
 use Rattle.plan_report.specs.Run.{IsRunOf}
@@ -37,8 +37,8 @@ plan-seen sets sizes given plan order lists o l is =
 
 module _ (b : BoundQuery) (options : Options) (plan : Plan) (is : IsPlanFor b options plan) (sets : length b.known.sets ≡ length b.query.table_of) where
   -- the order of a plan has each relation once
-  pub plan-order_each : IfSome options.order (λ (o : List ℕ). IsOrder (length b.known.sets) o) → HasEachOnce (length b.query.table_of) plan.order
-  plan-order_each given = subst (λ (n : ℕ). HasEachOnce n plan.order) sets (plan-each b.known.sets is.0 options.order plan is.1 given)
+  pub plan-order_each : IfSome options.order (λ (o : List ℕ). IsOrder (length b.known.sets) o) → IsOrder (length b.query.table_of) plan.order
+  plan-order_each given = subst (λ (n : ℕ). IsOrder n plan.order) sets (plan-each b.known.sets is.0 options.order plan is.1 given)
 
   pub plan-order_below : IfSome options.order (λ (o : List ℕ). IsOrder (length b.known.sets) o) → All (λ r. r < length b.query.table_of) plan.order
   plan-order_below given = λ i d lt. ((plan-order_each given).members (get_or plan.order i d)).0 (Contains-get_or plan.order i d lt)

@@ -1,18 +1,20 @@
 -- That a script's bytes are read as one thing.
-use Rattle.std.proofs.Common.{Bool, ◌≡◌, ◌⊎◌, ◌∙◌, inl, inr, ap, sym, subst, List, ℕ, length}
-use Rattle.std.specs.Prelude.{IfErr, IfOk, Option, Result, Ok, Err}
+use Rattle.std.proofs.Common.{◌≡◌, ◌⊎◌, ◌∙◌, inl, inr, ap, sym, subst, List, ℕ, length}
+use Rattle.std.specs.Prelude.{IfErr, IfOk, Result, Ok, Err}
 use Rattle.sql_lex.specs.declared.tokens.Token.{Token}
-use Rattle.sql_lex.specs.declared.tokens.LexError.{LexError}
-use Rattle.sql_lex.specs.declared.tokens.LexError.TheVariants as lex_error
+use Rattle.sql_lex.specs.declared.errors.LexError.{LexError}
+use Rattle.sql_lex.specs.declared.errors.LexError.TheVariants as lex_error
 use Rattle.sql_lex.specs.Tokens.{IsBadAt, IsTokenList}
 use Rattle.sql_grammar.specs.declared.tree.Script.{Script}
 use Rattle.sql_grammar.specs.declared.errors.ParseError.{ParseError}
 use Rattle.sql_grammar.specs.declared.errors.ParseError.TheVariants as parse_error
 use Rattle.sql_grammar.specs.Sentence.{IsReading, IsSentence, IsSyntaxError, IsTooDeep}
-use Rattle.refusal_lines.specs.declared.refusal.Refusal.{Refusal}
-use Rattle.refusal_lines.specs.declared.refusal.Refusal.TheVariants.{Usage, ReadFault, TooLarge, Lex, Syntax, TooDeep, Bind, Cyclic, OrderNames, UnsafeOrder, Header, Ragged, BadField, NotUtf8, TooManyRows, RowsOverflow, WriteFault, Memory}
+use Rattle.refusal_lines.specs.declared.errors.Refusal.{Refusal}
+use Rattle.refusal_lines.specs.declared.errors.Refusal.TheVariants.{Usage, ReadFault, TooLarge, Lex, Syntax, TooDeep, Bind, Cyclic, OrderNames, UnsafeOrder, Header, Ragged, BadField, NotUtf8, TooManyRows, RowsOverflow, WriteFault, Memory}
 use Rattle.bound_query.specs.Query.{BoundQuery, Query}
-use Rattle.rpt_base.specs.declared.limits.TheConstants.{MAX_SCRIPT_BYTES}
+use Rattle.rpt_base.specs.declared.limits.TheConstants.{MAX_SCRIPT_BYTES, MAX_LEVELS}
+use Rattle.rpt_outside.specs.Seen.{seen, seen_until}
+use Rattle.rpt_outside.specs.declared.traits.Files.{Ghosts as FileWords}
 use Rattle.rpt_cli.specs.Command.{asks_within, bytes_course, script_course}
 use Rattle.rpt_cli.specs.Course.{Gives}
 use Rattle.rpt_cli.specs.Scripts.{IsScript}
@@ -38,15 +40,15 @@ as_read found said (inr e) = inr (ap answer_of e)
 pub read-only : (bytes : List ℕ) (tokens : List Token) (found : Result Script ParseError)
     → ((others : List Token) → IsTokenList bytes others → tokens ≡ others)
     → ((offset : ℕ) → IsBadAt bytes offset → ⊥)
-    → ((said : Result Script ParseError) → IsReading 64 tokens (length bytes) said → (found ≡ Err parse_error.Memory) ⊎ (found ≡ said))
+    → ((said : Result Script ParseError) → IsReading MAX_LEVELS tokens (length bytes) said → (found ≡ Err parse_error.Memory) ⊎ (found ≡ said))
     → (said : Result Script Refusal) → IsScript bytes said → (answer_of found ≡ Err Memory) ⊎ (answer_of found ≡ said)
 read-only bytes tokens found same good only (Ok script) (others, lists, is) =
-    as_read found (Ok script) (only (Ok script) (subst (λ (ts : List Token). IsSentence 64 ts script) (sym (same others lists)) is))
+    as_read found (Ok script) (only (Ok script) (subst (λ (ts : List Token). IsSentence MAX_LEVELS ts script) (sym (same others lists)) is))
 read-only bytes tokens found same good only (Err (Lex offset)) bad = absurd (good offset bad)
 read-only bytes tokens found same good only (Err (Syntax at)) (others, lists, is) =
-    as_read found (Err (parse_error.Syntax at)) (only (Err (parse_error.Syntax at)) (subst (λ (ts : List Token). IsSyntaxError 64 ts (length bytes) at) (sym (same others lists)) is))
+    as_read found (Err (parse_error.Syntax at)) (only (Err (parse_error.Syntax at)) (subst (λ (ts : List Token). IsSyntaxError MAX_LEVELS ts (length bytes) at) (sym (same others lists)) is))
 read-only bytes tokens found same good only (Err (TooDeep at)) (others, lists, is) =
-    as_read found (Err (parse_error.TooDeep at)) (only (Err (parse_error.TooDeep at)) (subst (λ (ts : List Token). IsTooDeep 64 ts at) (sym (same others lists)) is))
+    as_read found (Err (parse_error.TooDeep at)) (only (Err (parse_error.TooDeep at)) (subst (λ (ts : List Token). IsTooDeep MAX_LEVELS ts at) (sym (same others lists)) is))
 read-only bytes tokens found same good only (Err Usage) h = absurd h
 read-only bytes tokens found same good only (Err (ReadFault name)) h = absurd h
 read-only bytes tokens found same good only (Err (TooLarge name)) h = absurd h
@@ -90,7 +92,7 @@ bad-only bytes offset none same (Err Memory) h = absurd h
 pub read-only-as : (bytes : List ℕ) (tokens : List Token) (found : Result Script ParseError) (seen : Result Script Refusal) → answer_of found ≡ seen
     → ((others : List Token) → IsTokenList bytes others → tokens ≡ others)
     → ((offset : ℕ) → IsBadAt bytes offset → ⊥)
-    → ((said : Result Script ParseError) → IsReading 64 tokens (length bytes) said → (found ≡ Err parse_error.Memory) ⊎ (found ≡ said))
+    → ((said : Result Script ParseError) → IsReading MAX_LEVELS tokens (length bytes) said → (found ≡ Err parse_error.Memory) ⊎ (found ≡ said))
     → (said : Result Script Refusal) → IsScript bytes said → (seen ≡ Err Memory) ⊎ (seen ≡ said)
 read-only-as bytes tokens found seen e same good only said is =
     subst (λ (r : Result Script Refusal). (r ≡ Err Memory) ⊎ (r ≡ said)) e (read-only bytes tokens found same good only said is)
@@ -106,23 +108,23 @@ bad-only-as bytes e offset is none same said h = bad-only bytes offset (λ token
     by other (inr a) = let same : lex_error.At offset ≡ lex_error.At other = sym is ∙ a in cc
 
 -- what the bytes of a script lead to, its file leads to
-module _ {F : Type 0} (missing : F → List ℕ → Bool) (contents : F → List ℕ → Option (List ℕ)) (faults : F → List ℕ → ℕ) (old new : F) (name bytes seen : List ℕ) (same : seen ≡ bytes)
-    (read : Passes missing contents faults old new (asks_within MAX_SCRIPT_BYTES name) bytes) where
-  file-Passes : (query : Query) → PassesUnasked (bytes_course seen) query → Passes missing contents faults old new (script_course name) query
+module _ {F : Type 0} (words : FileWords F) (old new : F) (name bytes lent : List ℕ) (same : lent ≡ bytes)
+    (read : Passes words old new (asks_within MAX_SCRIPT_BYTES name) bytes) where
+  file-Passes : (query : Query) → PassesUnasked (bytes_course lent) query → Passes words old new (script_course name) query
   file-Passes query passes = λ next end answer gives.
       read (λ bs. bytes_course bs next) end answer
-      (subst (λ (bs : List ℕ). Gives (missing new) (contents new) (faults new) end (bytes_course bs next) answer) same (passes (missing new) (contents new) (faults new) end next answer gives))
+      (subst (λ (bs : List ℕ). Gives (seen_until words new end) (bytes_course bs next) answer) same (passes (seen_until words new end) next answer gives))
 
-  file-Stops : (e : Refusal) → StopsUnasked (bytes_course seen) e → Stops missing contents faults old new (script_course name) e
+  file-Stops : (e : Refusal) → StopsUnasked (bytes_course lent) e → Stops words old new (script_course name) e
   file-Stops e stops = λ next.
-      read (λ bs. bytes_course bs next) (faults new) (Err e)
-      (subst (λ (bs : List ℕ). Gives (missing new) (contents new) (faults new) (faults new) (bytes_course bs next) (Err e)) same (stops (missing new) (contents new) (faults new) (faults new) next))
+      read (λ bs. bytes_course bs next) (words.faults new) (Err e)
+      (subst (λ (bs : List ℕ). Gives (seen words new new) (bytes_course bs next) (Err e)) same (stops (seen words new new) next))
 
   -- the same of what the bytes ask for, and of why they ask for nothing
-  pub query-Passes : (found : Result BoundQuery Refusal) → IfOk found (λ bound. PassesUnasked (bytes_course seen) bound.query) → IfOk found (λ bound. Passes missing contents faults old new (script_course name) bound.query)
+  pub query-Passes : (found : Result BoundQuery Refusal) → IfOk found (λ bound. PassesUnasked (bytes_course lent) bound.query) → IfOk found (λ bound. Passes words old new (script_course name) bound.query)
   query-Passes (Ok bound) passes = file-Passes bound.query passes
   query-Passes (Err e) passes = tt
 
-  pub query-Stops : (found : Result BoundQuery Refusal) → IfErr found (λ e. StopsUnasked (bytes_course seen) e) → IfErr found (λ e. Stops missing contents faults old new (script_course name) e)
+  pub query-Stops : (found : Result BoundQuery Refusal) → IfErr found (λ e. StopsUnasked (bytes_course lent) e) → IfErr found (λ e. Stops words old new (script_course name) e)
   query-Stops (Ok bound) stops = tt
   query-Stops (Err e) stops = file-Stops e stops

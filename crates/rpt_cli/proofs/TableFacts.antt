@@ -1,14 +1,16 @@
 -- One table after another.
-use Rattle.std.proofs.Common.{Bool, ◌≡◌, ◌∙◌, ◌⊎◌, inl, inr, false, refl, sym, ap, subst, ℕ, ◌+◌, ◌-◌, ◌≤◌, List, [], ◌∷◌, ◌++◌, length, map, take, drop}
-use Rattle.std.specs.Prelude.{Option, Some, Result, Ok, Err, is_err, is_ok, slice_get, if◌then◌else◌}
+use Rattle.std.proofs.Common.{◌≡◌, ◌∙◌, ◌⊎◌, inl, inr, false, refl, sym, ap, subst, ℕ, ◌+◌, ◌-◌, ◌≤◌, List, [], ◌∷◌, ◌++◌, length, map, take, drop}
+use Rattle.std.specs.Prelude.{Some, Result, Ok, Err, is_err, is_ok, slice_get, if◌then◌else◌}
 use Rattle.std.proofs.lemmas.List.{drop_all, drop_more, map-append, take_all, take_more}
 use Rattle.std.proofs.lemmas.Option.{get_or_from_slice_get, slice_get_within}
 use Rattle.column_table.specs.Table.{Rows, types_of}
 use Rattle.column_table.specs.declared.declared.Decl.{Decl}
 use Rattle.bound_query.specs.Query.{Query}
 use Rattle.bound_query.specs.Answer.{AreTables}
-use Rattle.refusal_lines.specs.declared.refusal.Refusal.{Refusal}
-use Rattle.refusal_lines.specs.declared.refusal.Refusal.TheVariants.{Memory}
+use Rattle.rpt_outside.specs.Seen.{seen, seen_until}
+use Rattle.rpt_outside.specs.declared.traits.Files.{Ghosts as FileWords}
+use Rattle.refusal_lines.specs.declared.errors.Refusal.{Refusal}
+use Rattle.refusal_lines.specs.declared.errors.Refusal.TheVariants.{Memory}
 use Rattle.rpt_cli.specs.Course.{Answer, Course, Gives, goes_on}
 use Rattle.rpt_cli.specs.Command.{asks_within, load_course, table_course, tables_course}
 use Rattle.rpt_cli.specs.Steps.{AreKept, Passes, Stops}
@@ -30,69 +32,69 @@ pushed (Err e) after before x is none = cc none
 
 -- What has come of the tables' files: the first tables have the columns that are declared, and all that the rest of the tables
 -- leads to, the course of all tables leads to.
-pub record HasCome {F : Type 0} (missing : F → List ℕ → Bool) (contents : F → List ℕ → Option (List ℕ)) (faults : F → List ℕ → ℕ) (folder : List ℕ) (old new : F) (decls : List Decl) (room : ℕ) (tables : List Rows) (number : ℕ) : Type 0 where
+pub record HasCome {F : Type 0} (words : FileWords F) (folder : List ℕ) (old new : F) (decls : List Decl) (room : ℕ) (tables : List Rows) (number : ℕ) : Type 0 where
   pub kinds : map (λ (t : Rows). t.kinds) tables ≡ map (λ (d : Decl). types_of d.columns) (take number decls)
   pub goes : (next : List Rows → Course) (end : List ℕ → ℕ) (answer : Answer)
-      → Gives (missing new) (contents new) (faults new) end (tables_course folder next room tables (drop number decls)) answer
-      → Gives (missing old) (contents old) (faults old) end (load_course folder decls next) answer
-  pub kept : AreKept contents faults old new
+      → Gives (seen_until words new end) (tables_course folder next room tables (drop number decls)) answer
+      → Gives (seen_until words old end) (load_course folder decls next) answer
+  pub kept : AreKept words old new
 
-module _ {F : Type 0} (missing : F → List ℕ → Bool) (contents : F → List ℕ → Option (List ℕ)) (faults : F → List ℕ → ℕ) (folder : List ℕ) where
+module _ {F : Type 0} (words : FileWords F) (folder : List ℕ) where
   -- the table of a file's bytes is passed
   pub table-Passes : (old new : F) (room : ℕ) (decl : Decl) (name bytes : List ℕ) (table : Rows) → name ≡ table_file folder decl.name
-      → Passes missing contents faults old new (asks_within room name) bytes → table_of decl bytes ≡ Ok table
-      → Passes missing contents faults old new (table_course room folder decl) (table, room - length bytes)
+      → Passes words old new (asks_within room name) bytes → table_of decl bytes ≡ Ok table
+      → Passes words old new (table_course room folder decl) (table, room - length bytes)
   table-Passes old new room decl name bytes table named passes is = λ next end answer gives.
       let goes : List ℕ → Course = λ read. goes_on (table_of decl read) (λ t. next (t, room - length read)) in
-      let here : Gives (missing new) (contents new) (faults new) end (goes bytes) answer =
-      subst (λ (r : Result Rows Refusal). Gives (missing new) (contents new) (faults new) end (goes_on r (λ t. next (t, room - length bytes))) answer) (sym is) gives in
-      subst (λ (file : List ℕ). Gives (missing old) (contents old) (faults old) end (asks_within room file goes) answer) named (passes goes end answer here)
+      let here : Gives (seen_until words new end) (goes bytes) answer =
+      subst (λ (r : Result Rows Refusal). Gives (seen_until words new end) (goes_on r (λ t. next (t, room - length bytes))) answer) (sym is) gives in
+      subst (λ (file : List ℕ). Gives (seen_until words old end) (asks_within room file goes) answer) named (passes goes end answer here)
 
   -- a file that isn't had ends the course, and so do bytes that are no table
   pub file-Stops : (old new : F) (room : ℕ) (decl : Decl) (name : List ℕ) (e : Refusal) → name ≡ table_file folder decl.name
-      → Stops missing contents faults old new (asks_within room name) e → Stops missing contents faults old new (table_course room folder decl) e
+      → Stops words old new (asks_within room name) e → Stops words old new (table_course room folder decl) e
   file-Stops old new room decl name e named stops = λ next.
       let goes : List ℕ → Course = λ read. goes_on (table_of decl read) (λ t. next (t, room - length read)) in
-      subst (λ (file : List ℕ). Gives (missing old) (contents old) (faults old) (faults new) (asks_within room file goes) (Err e)) named (stops goes)
+      subst (λ (file : List ℕ). Gives (seen words old new) (asks_within room file goes) (Err e)) named (stops goes)
 
   pub bytes-Stops : (old new : F) (room : ℕ) (decl : Decl) (name bytes : List ℕ) (e : Refusal) → name ≡ table_file folder decl.name
-      → Passes missing contents faults old new (asks_within room name) bytes → (e ≡ Memory) ⊎ (table_of decl bytes ≡ Err e)
-      → Stops missing contents faults old new (table_course room folder decl) e
+      → Passes words old new (asks_within room name) bytes → (e ≡ Memory) ⊎ (table_of decl bytes ≡ Err e)
+      → Stops words old new (table_course room folder decl) e
   bytes-Stops old new room decl name bytes e named passes (inl memory) = λ next. inl (ap Err memory)
   bytes-Stops old new room decl name bytes e named passes (inr is) = λ next.
       let goes : List ℕ → Course = λ read. goes_on (table_of decl read) (λ t. next (t, room - length read)) in
-      let here : Gives (missing new) (contents new) (faults new) (faults new) (goes bytes) (Err e) =
-      subst (λ (r : Result Rows Refusal). Gives (missing new) (contents new) (faults new) (faults new) (goes_on r (λ t. next (t, room - length bytes))) (Err e)) (sym is) (inr refl) in
-      subst (λ (file : List ℕ). Gives (missing old) (contents old) (faults old) (faults new) (asks_within room file goes) (Err e)) named (passes goes (faults new) (Err e) here)
+      let here : Gives (seen words new new) (goes bytes) (Err e) =
+      subst (λ (r : Result Rows Refusal). Gives (seen words new new) (goes_on r (λ t. next (t, room - length bytes))) (Err e)) (sym is) (inr refl) in
+      subst (λ (file : List ℕ). Gives (seen words old new) (asks_within room file goes) (Err e)) named (passes goes (words.faults new) (Err e) here)
 
-  module _ (old now new : F) (decls : List Decl) (room : ℕ) (tables : List Rows) (number : ℕ) (decl : Decl) (has : HasCome missing contents faults folder old now decls room tables number) (here : slice_get decls number ≡ Some decl) where
+  module _ (old now new : F) (decls : List Decl) (room : ℕ) (tables : List Rows) (number : ℕ) (decl : Decl) (has : HasCome words folder old now decls room tables number) (here : slice_get decls number ≡ Some decl) where
     -- a table that is refused ends the course
-    pub HasCome-refused : (e : Refusal) → Stops missing contents faults now new (table_course room folder decl) e → Stops missing contents faults old new (load_course folder decls) e
+    pub HasCome-refused : (e : Refusal) → Stops words now new (table_course room folder decl) e → Stops words old new (load_course folder decls) e
     HasCome-refused e stops = λ next.
         let rest = drop (number + 1) decls in
-        has.goes next (faults new) (Err e) (subst (λ (ds : List Decl). Gives (missing now) (contents now) (faults now) (faults new) (tables_course folder next room tables ds) (Err e)) (sym (drop_from decls number decl here))
+        has.goes next (words.faults new) (Err e) (subst (λ (ds : List Decl). Gives (seen words now new) (tables_course folder next room tables ds) (Err e)) (sym (drop_from decls number decl here))
         (stops (λ read. tables_course folder next read.1 (tables ++ read.0 ∷ []) rest)))
 
     -- a table that is read is passed
-    pub HasCome-next : (read : Rows × ℕ) → read.0.kinds ≡ types_of decl.columns → Passes missing contents faults now new (table_course room folder decl) read
-        → AreKept contents faults now new → HasCome missing contents faults folder old new decls read.1 (tables ++ read.0 ∷ []) (number + 1)
+    pub HasCome-next : (read : Rows × ℕ) → read.0.kinds ≡ types_of decl.columns → Passes words now new (table_course room folder decl) read
+        → AreKept words now new → HasCome words folder old new decls read.1 (tables ++ read.0 ∷ []) (number + 1)
     HasCome-next read kinds_are passes kept = record {
       kinds = map-append (λ (t : Rows). t.kinds) tables (read.0 ∷ [])
           ∙ ap (λ ks. ks ++ read.0.kinds ∷ []) has.kinds
           ∙ ap (λ k. map (λ (d : Decl). types_of d.columns) (take number decls) ++ k ∷ []) kinds_are
           ∙ sym (ap (map (λ (d : Decl). types_of d.columns)) (take_to decls number decl here) ∙ map-append (λ (d : Decl). types_of d.columns) (take number decls) (decl ∷ []));
       goes = λ next end answer gives.
-          has.goes next end answer (subst (λ (ds : List Decl). Gives (missing now) (contents now) (faults now) end (tables_course folder next room tables ds) answer) (sym (drop_from decls number decl here))
+          has.goes next end answer (subst (λ (ds : List Decl). Gives (seen_until words now end) (tables_course folder next room tables ds) answer) (sym (drop_from decls number decl here))
           (passes (λ r. tables_course folder next r.1 (tables ++ r.0 ∷ []) (drop (number + 1) decls)) end answer gives));
-      kept = kept-next contents faults old now new has.kept kept;
+      kept = kept-next words old now new has.kept kept;
     }
 
-  module _ (old now : F) (query : Query) (room : ℕ) (tables : List Rows) (number : ℕ) (has : HasCome missing contents faults folder old now query.tables room tables number) (all : length query.tables ≤ number) where
+  module _ (old now : F) (query : Query) (room : ℕ) (tables : List Rows) (number : ℕ) (has : HasCome words folder old now query.tables room tables number) (all : length query.tables ≤ number) where
     -- all tables are there
     pub HasCome-AreTables : AreTables query tables
     HasCome-AreTables = has.kinds ∙ ap (map (λ (d : Decl). types_of d.columns)) (take_all number query.tables all)
 
     -- after all tables the course goes on with them
-    pub HasCome-ends : Passes missing contents faults old now (load_course folder query.tables) tables
+    pub HasCome-ends : Passes words old now (load_course folder query.tables) tables
     HasCome-ends = λ next end answer gives.
-        has.goes next end answer (subst (λ (ds : List Decl). Gives (missing now) (contents now) (faults now) end (tables_course folder next room tables ds) answer) (sym (drop_all number query.tables all)) gives)
+        has.goes next end answer (subst (λ (ds : List Decl). Gives (seen_until words now end) (tables_course folder next room tables ds) answer) (sym (drop_all number query.tables all)) gives)

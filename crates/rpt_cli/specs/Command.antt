@@ -1,7 +1,9 @@
 -- The course of a command: what it asks for and what it answers, in the order of refusals.
--- The rows that comments name are those of the table of statuses and lines in docs/COMMAND.md. Rows 2 and 11 are the course's own
--- (`Asks` of Course.antt), row 20 is of its delivery (Delivery.antt), and row 21 may come in place of any answer (`Gives`).
-use Rattle.std.specs.Prelude.{ℕ, ◌-◌, ◌∷◌, ◌++◌, sum, Bool, true, false, List, [], Result, Ok, Err, Option, None, Some, nat_lt, length, map, if◌then◌else◌}
+-- The rows that comments name are those of the table of statuses and lines in docs/COMMAND.md. Rows 2 and 11 are
+-- the course's own (`Asks` of Course.antt), row 20 is of its delivery (Delivery.antt), and row 21 may come in place
+-- of any answer (`Gives`).
+use Rattle.std.specs.Prelude.{ℕ, ◌-◌, ◌∷◌, ◌++◌, sum, Bool, true, false, List, [], nat_lt, length, map}
+use Rattle.std.specs.Prelude.{Result, Ok, Err, Option, None, Some, if◌then◌else◌}
 use Rattle.std.specs.List.{range_with_len}
 use Rattle.std.specs.Option.{unwrap_or}
 use Rattle.rpt_base.specs.declared.filters.FilterKind.{FilterKind}
@@ -24,8 +26,8 @@ use Rattle.command_words.specs.declared.words.Command.{Command}
 use Rattle.command_words.specs.declared.words.Mode.{Mode}
 use Rattle.command_words.specs.declared.words.Mode.TheVariants as mode
 use Rattle.command_words.specs.Words.{command_of, sample_number}
-use Rattle.refusal_lines.specs.declared.refusal.Refusal.{Refusal}
-use Rattle.refusal_lines.specs.declared.refusal.Refusal.TheVariants.{Usage, TooLarge, Bind, TooManyRows, RowsOverflow}
+use Rattle.refusal_lines.specs.declared.errors.Refusal.{Refusal}
+use Rattle.refusal_lines.specs.declared.errors.Refusal.TheVariants.{Usage, TooLarge, Bind, TooManyRows, RowsOverflow}
 use Rattle.rpt_cli.specs.Course.{Course, Ends, Asks, Finds, goes_on, over_files}
 use Rattle.rpt_cli.specs.Matters.{Planning, Preparing, Reading}
 use Rattle.rpt_cli.specs.Sample.{file_bytes, size_lines}
@@ -35,7 +37,8 @@ use Rattle.sample_gen.specs.Tables.{sample_tables}
 
 -- a file is asked for, whose contents have at most so many bytes: rows 3 and 12
 abbrev pub asks_within : ℕ → List ℕ → (List ℕ → Course) → Course
-asks_within limit name next = Asks name (λ bytes. if nat_lt limit (length bytes) then Ends (Err (TooLarge name)) else next bytes)
+asks_within limit name next =
+    Asks name (λ bytes. if nat_lt limit (length bytes) then Ends (Err (TooLarge name)) else next bytes)
 
 -- the bound query of a script, or its first refusal: row 7
 abbrev pub query_or : Option Fault → Query → Result Query Refusal
@@ -57,7 +60,8 @@ script_course name next = asks_within MAX_SCRIPT_BYTES name (λ bytes. bytes_cou
 -- that are left
 abbrev pub table_course : ℕ → List ℕ → Decl → ((Rows × ℕ) → Course) → Course
 table_course room folder decl next =
-    asks_within room (table_file folder decl.name) (λ bytes. goes_on (table_of decl bytes) (λ table. next (table, room - length bytes)))
+    asks_within room (table_file folder decl.name)
+    (λ bytes. goes_on (table_of decl bytes) (λ table. next (table, room - length bytes)))
 
 -- one after the other, with at most so many bytes together, and the course goes on with the tables behind those that were read
 abbrev pub tables_course : List ℕ → (List Rows → Course) → ℕ → List Rows → List Decl → Course
@@ -83,12 +87,15 @@ unless_overflow (Some prefix) next = Ends (Err (RowsOverflow prefix))
 abbrev pub join_course : FilterKind → BoundQuery → Option (List ℕ) → List Rows → (Plan → Course) → Course
 join_course filter bound order tables next =
     if nat_lt MAX_ROWS (sum (counts_of bound.query tables)) then Ends (Err TooManyRows)
-    else Finds (Planning bound.known.sets (sizes_of bound tables) order) (λ plan. unless_overflow (overflow_of filter bound tables plan) (next plan))
+    else
+    Finds (Planning bound.known.sets (sizes_of bound tables) order)
+    (λ plan. unless_overflow (overflow_of filter bound tables plan) (next plan))
 
 -- The tables of a query are loaded and its relations are joined over them, and the course goes on with the tables and the plan.
 abbrev pub answered_course : FilterKind → List ℕ → BoundQuery → Option (List ℕ) → ((List Rows × Plan) → Course) → Course
 answered_course filter folder bound order next =
-    load_course folder bound.query.tables (λ tables. join_course filter bound order tables (λ plan. next (tables, plan)))
+    load_course folder bound.query.tables
+    (λ tables. join_course filter bound order tables (λ plan. next (tables, plan)))
 
 -- the text of the answer, however it was found
 abbrev pub answer_text : BoundQuery → List Rows → List ℕ
@@ -96,7 +103,8 @@ answer_text bound tables = output_text bound.query tables (answer_of bound.query
 
 -- mode run: the query is answered over its tables
 abbrev pub run_course : FilterKind → List ℕ → BoundQuery → Option (List ℕ) → Course
-run_course filter folder bound order = answered_course filter folder bound order (λ found. Ends (Ok (answer_text bound found.0)))
+run_course filter folder bound order =
+    answered_course filter folder bound order (λ found. Ends (Ok (answer_text bound found.0)))
 
 -- How many rows there are of each relation, how many are selected and how many are joined, and how many tuples each prefix of the
 -- plan's order has.
@@ -158,7 +166,8 @@ number_of command = unwrap_or (sample_number command.script) 0
 -- a sample's script is answered over its tables, and no file is asked for
 abbrev pub sample_course : Command → Course
 sample_course command =
-    over_files (file_bytes command.folder (sample_tables (number_of command))) (bytes_course sample_script (query_course command))
+    over_files (file_bytes command.folder (sample_tables (number_of command)))
+    (bytes_course sample_script (query_course command))
 
 -- whether a mode's script and tables are made
 abbrev pub is_made : Mode → Bool

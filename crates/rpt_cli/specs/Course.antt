@@ -1,9 +1,10 @@
 -- What a command makes of the files that it asks for, one after the other.
-use Rattle.std.specs.Prelude.{◌≡◌, ◌⊎◌, ℕ, ◌+◌, ◌-◌, ◌^◌, ◌<◌, min, Bool, List, Result, Ok, Err, Option, Some, IfSome, MatchResult, ⊤}
+use Rattle.std.specs.Prelude.{◌≡◌, ◌⊎◌, ℕ, ◌+◌, ◌-◌, ◌^◌, ◌<◌, min, List, Result, Ok, Err, Option, Some, IfSome, MatchResult, ⊤}
 use Rattle.rpt_outside.specs.Causes.{HasContents, Rose}
+use Rattle.rpt_outside.specs.Seen.{FilesSeen}
 use Rattle.rpt_cli.specs.Matters.{Found, IsFound, Matter}
-use Rattle.refusal_lines.specs.declared.refusal.Refusal.{Refusal}
-use Rattle.refusal_lines.specs.declared.refusal.Refusal.TheVariants.{ReadFault, Memory}
+use Rattle.refusal_lines.specs.declared.errors.Refusal.{Refusal}
+use Rattle.refusal_lines.specs.declared.errors.Refusal.TheVariants.{ReadFault, Memory}
 
 -- the text, or why there is none
 abbrev pub Answer : Type 0
@@ -23,36 +24,42 @@ goes_on (Err e) next = Ends (Err e)
 
 -- this is found, or refused so, and nothing else
 abbrev pub IsFoundAs : (matter : Matter) → Result (Found matter) Refusal → Type 0
-IsFoundAs matter found = IsFound matter found × ((other : Result (Found matter) Refusal) → IsFound matter other → other ≡ found)
+IsFoundAs matter found =
+    IsFound matter found × ((other : Result (Found matter) Refusal) → IsFound matter other → other ≡ found)
 
 -- The course leads to this answer. Each file that it asks for is there and has the contents that are told of it, or some where none
 -- are told; or reading it failed, and then the count of its name rose. What is found out is the one thing that can be found.
-abbrev pub Leads : (List ℕ → Bool) → (List ℕ → Option (List ℕ)) → (List ℕ → ℕ) → (List ℕ → ℕ) → Course → Answer → Type 0
-Leads missing told before now (Ends end) answer = answer ≡ end
-Leads missing told before now (Asks name next) answer =
-    ((answer ≡ Err (ReadFault name)) × Rose (before name) (now name))
-    ⊎ ((bytes : List ℕ) × HasContents (missing name) (told name) bytes × Leads missing told before now (next bytes) answer)
-Leads missing told before now (Finds matter next) answer =
-    (found : Result (Found matter) Refusal) × IsFoundAs matter found × MatchResult found (λ x. Leads missing told before now (next x) answer) (λ e. answer ≡ Err e)
+abbrev pub Leads : FilesSeen → Course → Answer → Type 0
+Leads files (Ends end) answer = answer ≡ end
+Leads files (Asks name next) answer =
+    ((answer ≡ Err (ReadFault name)) × Rose (files.before name) (files.now name))
+    ⊎ ((bytes : List ℕ) × HasContents (files.missing name) (files.told name) bytes × Leads files (next bytes) answer)
+Leads files (Finds matter next) answer =
+    (found : Result (Found matter) Refusal) × IsFoundAs matter found
+    × MatchResult found (λ x. Leads files (next x) answer) (λ e. answer ≡ Err e)
 
 -- it leads to this answer, or memory ran out
-abbrev pub Gives : (List ℕ → Bool) → (List ℕ → Option (List ℕ)) → (List ℕ → ℕ) → (List ℕ → ℕ) → Course → Answer → Type 0
-Gives missing told before now course answer = (answer ≡ Err Memory) ⊎ Leads missing told before now course answer
+abbrev pub Gives : FilesSeen → Course → Answer → Type 0
+Gives files course answer = (answer ≡ Err Memory) ⊎ Leads files course answer
 
 -- the answer is the course's, where all that it asks for is told
 abbrev pub IsOutcome : (List ℕ → Option (List ℕ)) → Course → Answer → Type 0
 IsOutcome told (Ends end) answer = answer ≡ end
-IsOutcome told (Asks name next) answer = (bytes : List ℕ) × (told name ≡ Some bytes) × IsOutcome told (next bytes) answer
+IsOutcome told (Asks name next) answer =
+    (bytes : List ℕ) × (told name ≡ Some bytes) × IsOutcome told (next bytes) answer
 IsOutcome told (Finds matter next) answer =
-    (found : Result (Found matter) Refusal) × IsFound matter found × MatchResult found (λ x. IsOutcome told (next x) answer) (λ e. answer ≡ Err e)
+    (found : Result (Found matter) Refusal) × IsFound matter found
+    × MatchResult found (λ x. IsOutcome told (next x) answer) (λ e. answer ≡ Err e)
 
 -- all that the course asks for is told, and no count of a file of these has risen
-abbrev pub NoneRose : (List ℕ → Option (List ℕ)) → (List ℕ → ℕ) → (List ℕ → ℕ) → Course → Type 0
-NoneRose told before now (Ends end) = ⊤
-NoneRose told before now (Asks name next) =
-    (now name < min (before name + 1) (2 ^ 64 - 1)) × IfSome (told name) (λ bytes. NoneRose told before now (next bytes))
-NoneRose told before now (Finds matter next) =
-    (found : Result (Found matter) Refusal) × IsFound matter found × MatchResult found (λ x. NoneRose told before now (next x)) (λ e. ⊤)
+abbrev pub NoneRose : FilesSeen → Course → Type 0
+NoneRose files (Ends end) = ⊤
+NoneRose files (Asks name next) =
+    (files.now name < min (files.before name + 1) (2 ^ 64 - 1))
+    × IfSome (files.told name) (λ bytes. NoneRose files (next bytes))
+NoneRose files (Finds matter next) =
+    (found : Result (Found matter) Refusal) × IsFound matter found
+    × MatchResult found (λ x. NoneRose files (next x)) (λ e. ⊤)
 
 -- The course over files that have these contents: it asks for none.
 unfoldable pub over_files : (List ℕ → List ℕ) → Course → Course

@@ -17,17 +17,23 @@ use Rattle.rpt_cli.specs.Matters.{IsPrepared}
 use Rattle.rpt_cli.specs.Scripts.{IsScript}
 use Rattle.rpt_cli.specs.Tables.{table_file, table_of}
 
--- each table is that of the contents of its file, where these are told
+-- the table is that of the contents of its file, where these are told
+abbrev pub IsLoaded : (List ℕ → Option (List ℕ)) → List ℕ → Decl → Rows → Type 0
+IsLoaded told folder decl table =
+    (bytes : List ℕ) × Tells (told (table_file folder decl.name)) bytes × (table_of decl bytes ≡ Ok table)
+
+-- each table is
 abbrev pub AreLoaded : (List ℕ → Option (List ℕ)) → List ℕ → List Decl → List Rows → Type 0
 AreLoaded told folder [] [] = ⊤
 AreLoaded told folder [] (table ∷ tables) = ⊥
 AreLoaded told folder (decl ∷ decls) [] = ⊥
 AreLoaded told folder (decl ∷ decls) (table ∷ tables) =
-    ((bytes : List ℕ) × Tells (told (table_file folder decl.name)) bytes × (table_of decl bytes ≡ Ok table)) × AreLoaded told folder decls tables
+    IsLoaded told folder decl table × AreLoaded told folder decls tables
 
--- A command's query, its tables and its plan: the script's bytes are read as a script, which is bound and prepared with the order that
--- is given; each table is its file's; and the plan is by the numbers of selected rows.
-pub record IsRunOf (told : List ℕ → Option (List ℕ)) (command : Command) (bound : BoundQuery) (tables : List Rows) (plan : Plan) : Type 0 where
+-- A command's query, its tables and its plan: the script's bytes are read as a script, which is bound and prepared
+-- with the order that is given; each table is its file's; and the plan is by the numbers of selected rows.
+pub record IsRunOf (told : List ℕ → Option (List ℕ)) (command : Command) (bound : BoundQuery)
+    (tables : List Rows) (plan : Plan) : Type 0 where
   pub bytes : List ℕ
   pub is_told : Tells (told command.script) bytes
   pub script : Script
@@ -47,6 +53,7 @@ pub record IsExplained (told : List ℕ → Option (List ℕ)) (command : Comman
   pub plan : Plan
   pub run : IsRunOf told command bound tables plan
   pub text_is : text ≡ explain_text command.filter bound tables plan
-  pub full : command.filter ≡ filter_kind.Exact → AreAnswerRows bound tables (joined_rows command.filter bound tables plan)
+  pub full : command.filter ≡ filter_kind.Exact
+      → AreAnswerRows bound tables (joined_rows command.filter bound tables plan)
   pub bounded : command.filter ≡ filter_kind.Exact → IsAccepted bound.known.sets plan.order
       → All (λ count. count ≤ answer_count bound tables) (counts_in command.filter bound tables plan).prefixes

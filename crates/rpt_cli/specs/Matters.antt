@@ -10,8 +10,8 @@ use Rattle.rpt_engine.specs.declared.planning.Plan.{Plan}
 use Rattle.sql_grammar.specs.declared.tree.Script.{Script}
 use Rattle.rpt_cli.specs.Orders.{order_of}
 use Rattle.rpt_cli.specs.Scripts.{IsScript}
-use Rattle.refusal_lines.specs.declared.refusal.Refusal.{Refusal}
-use Rattle.refusal_lines.specs.declared.refusal.Refusal.TheVariants.{Cyclic, OrderNames, UnsafeOrder}
+use Rattle.refusal_lines.specs.declared.errors.Refusal.{Refusal}
+use Rattle.refusal_lines.specs.declared.errors.Refusal.TheVariants.{Cyclic, OrderNames, UnsafeOrder}
 
 -- the script that bytes are; whether a query can be answered, with an order by its words or none, forced or not; and how it is
 -- answered, where its relations have these variables and sizes
@@ -39,7 +39,8 @@ AreKnown query known = AreQueryVariables (widths_of query) query.equalities know
 -- or the order's words are none of its relations' names; or this is the least unsafe prefix.
 abbrev pub IsPrepared : Query → Option (List ℕ) → Bool → Result Prepared Refusal → Type 0
 IsPrepared query order force (Ok found) =
-    AreKnown query found.known × IsAcyclic found.known.sets × (order_of query order ≡ Some found.order) × IsAllowed found.known.sets found.order force
+    AreKnown query found.known × IsAcyclic found.known.sets
+    × (order_of query order ≡ Some found.order) × IsAllowed found.known.sets found.order force
 IsPrepared query order force (Err (Cyclic best needed)) =
     (known : QueryVariables) × AreKnown query known × IsCyclic known.sets best needed
 IsPrepared query order force (Err OrderNames) =

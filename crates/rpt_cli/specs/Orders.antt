@@ -1,9 +1,9 @@
 -- The order of relations that words say.
-use Rattle.std.specs.Prelude.{ℕ, ◌&&◌, ◌==◌, Bool, List, [], ◌∷◌, length, map, nat_lt, Option, None, Some, if◌then◌else◌}
-use Rattle.std.specs.List.{list_all, position_or_len, range_with_len}
+use Rattle.std.specs.Prelude.{ℕ, ◌==◌, Bool, List, [], ◌∷◌, length, map, Option, None, Some, if◌then◌else◌}
+use Rattle.std.specs.List.{position_or_len}
 use Rattle.std.specs.Str.{bytes_eq, str_to_ascii_lowercase}
 use Rattle.bound_query.specs.Query.{Query}
-use Rattle.join_graph.specs.JoinList.{has}
+use Rattle.rpt_base.specs.Orders.{is_order}
 
 abbrev pub is_comma : ℕ → Bool
 is_comma c = c == 44
@@ -25,10 +25,6 @@ is_name piece alias = bytes_eq (str_to_ascii_lowercase piece) alias
 -- the number of the relation that a piece names; the number of relations where it names none
 abbrev pub relation_named : Query → List ℕ → ℕ
 relation_named query piece = position_or_len (is_name piece) query.aliases
-
--- there are as many as n relations, none but these, and each of them
-abbrev pub is_order : ℕ → List ℕ → Bool
-is_order n order = (length order == n) && (list_all (λ r. nat_lt r n) order && list_all (λ r. has r order) (range_with_len 0 n))
 
 -- the relations that the pieces name, where they are all of the query's, each once
 abbrev pub named_order : Query → List ℕ → Option (List ℕ)

@@ -1,11 +1,12 @@
 -- Words of this crate's own contracts: what the parts of the top call give.
--- Words of this crate's own contracts.
-use Rattle.std.specs.Prelude.{◌≡◌, ◌⊎◌, ℕ, Bool, List, Result, Ok, Err, Option, Some, None, length}
+use Rattle.std.specs.Prelude.{◌≡◌, ◌⊎◌, ℕ, List, Result, Ok, Err, Option, Some, None, length}
 use Rattle.rpt_outside.specs.Causes.{NeverFalls}
+use Rattle.rpt_outside.specs.Seen.{FilesSeen, seen, seen_until}
+use Rattle.rpt_outside.specs.declared.traits.Files.{Ghosts as FileWords}
 use Rattle.sql_grammar.specs.declared.tree.Script.{Script}
 use Rattle.column_table.specs.Table.{Rows}
 use Rattle.bound_query.specs.Query.{BoundQuery}
-use Rattle.join_laws.specs.Order.{HasEachOnce}
+use Rattle.rpt_base.specs.Orders.{IsOrder}
 use Rattle.join_laws.specs.Selected.{instance_of, selected_counts}
 use Rattle.order_join.specs.Joined.{IsJoinRun}
 use Rattle.rpt_engine.specs.Answered.{plan_of}
@@ -17,36 +18,38 @@ use Rattle.rpt_engine.specs.declared.options.Options.{Options}
 use Rattle.rpt_engine.specs.declared.planning.Plan.{Plan}
 use Rattle.rpt_engine.specs.declared.errors.PrepareError.{PrepareError}
 use Rattle.rpt_engine.specs.declared.errors.PrepareError.TheVariants as prepare_error
-use Rattle.refusal_lines.specs.declared.refusal.Refusal.{Refusal}
-use Rattle.refusal_lines.specs.declared.refusal.Refusal.TheVariants.{Cyclic, OrderNames, UnsafeOrder, Memory}
+use Rattle.refusal_lines.specs.declared.errors.Refusal.{Refusal}
+use Rattle.refusal_lines.specs.declared.errors.Refusal.TheVariants.{Cyclic, OrderNames, UnsafeOrder, Memory}
 use Rattle.rpt_cli.specs.Course.{Answer, Course, Gives}
 use Rattle.rpt_cli.specs.Scripts.{IsScript}
 
 -- the files' contents are what they were, and no count of a file fell
-abbrev pub AreKept : {F : Type 0} → (F → List ℕ → Option (List ℕ)) → (F → List ℕ → ℕ) → F → F → Type 0
-AreKept contents faults old new = (contents new ≡ contents old) × NeverFalls (faults old) (faults new)
+abbrev pub AreKept : {F : Type 0} → FileWords F → F → F → Type 0
+AreKept words old new = (words.contents new ≡ words.contents old) × NeverFalls (words.faults old) (words.faults new)
 
 -- The part of a course in front of what follows comes to this, over files that were so at its begin and at its end: each answer
 -- that what follows gives, the whole gives.
-abbrev pub Passes : {F X : Type 0} → (F → List ℕ → Bool) → (F → List ℕ → Option (List ℕ)) → (F → List ℕ → ℕ) → F → F → ((X → Course) → Course) → X → Type 0
-Passes {X = X} missing contents faults old new part x =
-    (next : X → Course) (end : List ℕ → ℕ) (answer : Answer) → Gives (missing new) (contents new) (faults new) end (next x) answer → Gives (missing old) (contents old) (faults old) end (part next) answer
+abbrev pub Passes : {F X : Type 0} → FileWords F → F → F → ((X → Course) → Course) → X → Type 0
+Passes {X = X} words old new part x =
+    (next : X → Course) (end : List ℕ → ℕ) (answer : Answer)
+    → Gives (seen_until words new end) (next x) answer → Gives (seen_until words old end) (part next) answer
 
 -- the part of a course in front of what follows ends it so, whatever follows
-abbrev pub Stops : {F X : Type 0} → (F → List ℕ → Bool) → (F → List ℕ → Option (List ℕ)) → (F → List ℕ → ℕ) → F → F → ((X → Course) → Course) → Refusal → Type 0
-Stops {X = X} missing contents faults old new part e = (next : X → Course) → Gives (missing old) (contents old) (faults old) (faults new) (part next) (Err e)
+abbrev pub Stops : {F X : Type 0} → FileWords F → F → F → ((X → Course) → Course) → Refusal → Type 0
+Stops {X = X} words old new part e = (next : X → Course) → Gives (seen words old new) (part next) (Err e)
 
 -- the same of a part that asks for no file
 abbrev pub PassesUnasked : {X : Type 0} → ((X → Course) → Course) → X → Type 0
 PassesUnasked {X = X} part x =
-    (missing : List ℕ → Bool) (told : List ℕ → Option (List ℕ)) (before end : List ℕ → ℕ) (next : X → Course) (answer : Answer) → Gives missing told before end (next x) answer → Gives missing told before end (part next) answer
+    (files : FilesSeen) (next : X → Course) (answer : Answer)
+    → Gives files (next x) answer → Gives files (part next) answer
 
 abbrev pub StopsUnasked : {X : Type 0} → ((X → Course) → Course) → Refusal → Type 0
-StopsUnasked {X = X} part e = (missing : List ℕ → Bool) (told : List ℕ → Option (List ℕ)) (before end : List ℕ → ℕ) (next : X → Course) → Gives missing told before end (part next) (Err e)
+StopsUnasked {X = X} part e = (files : FilesSeen) (next : X → Course) → Gives files (part next) (Err e)
 
 -- the course, which asks for no file, leads to this answer, or memory ran out
 abbrev pub GivesUnasked : Course → Answer → Type 0
-GivesUnasked course answer = (missing : List ℕ → Bool) (told : List ℕ → Option (List ℕ)) (before now : List ℕ → ℕ) → Gives missing told before now course answer
+GivesUnasked course answer = (files : FilesSeen) → Gives files course answer
 
 -- what a definition says; or memory ran out
 abbrev pub Makes : {X : Type 0} → Result X Refusal → Result X Refusal → Type 0
@@ -76,7 +79,8 @@ IsPlanFor bound options plan = (sizes : List ℕ) × IsPlan bound.known.sets siz
 -- what the outcome of a query over its tables tells: the plan, and the numbers of rows that were selected, kept and joined
 pub record TellsRun (bound : BoundQuery) (tables : List Rows) (options : Options) (outcome : Outcome) : Type 0 where
   pub plan : IsPlan bound.known.sets (selected_counts bound tables) options.order (plan_of outcome)
-  pub order : HasEachOnce (length bound.query.table_of) outcome.order
+  pub order : IsOrder (length bound.query.table_of) outcome.order
   pub selected : outcome.selected ≡ selected_counts bound tables
   pub counts : CountsJoined bound tables options.filter (plan_of outcome) outcome.transfer
-  pub joined : IsJoinRun (instance_of bound tables) (joined_rows options.filter bound tables (plan_of outcome)) outcome.order outcome.joined
+  pub joined : IsJoinRun (instance_of bound tables) (joined_rows options.filter bound tables (plan_of outcome))
+      outcome.order outcome.joined

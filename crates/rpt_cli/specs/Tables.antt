@@ -7,10 +7,10 @@ use Rattle.column_table.specs.Table.{Rows, types_of}
 use Rattle.column_table.specs.declared.declared.ColumnDecl.{ColumnDecl}
 use Rattle.column_table.specs.declared.declared.Decl.{Decl}
 use Rattle.csv_load.specs.FileTable.{file_table}
-use Rattle.csv_load.specs.declared.refusal.LoadError.{LoadError}
-use Rattle.csv_load.specs.declared.refusal.LoadError.TheVariants as load_error
-use Rattle.refusal_lines.specs.declared.refusal.Refusal.{Refusal}
-use Rattle.refusal_lines.specs.declared.refusal.Refusal.TheVariants.{Header, Ragged, BadField, NotUtf8, TooManyRows, Memory}
+use Rattle.csv_load.specs.declared.errors.LoadError.{LoadError}
+use Rattle.csv_load.specs.declared.errors.LoadError.TheVariants as load_error
+use Rattle.refusal_lines.specs.declared.errors.Refusal.{Refusal}
+use Rattle.refusal_lines.specs.declared.errors.Refusal.TheVariants.{Header, Ragged, BadField, NotUtf8, TooManyRows, Memory}
 
 -- the file of a table
 abbrev pub table_file : List ℕ → List ℕ → List ℕ

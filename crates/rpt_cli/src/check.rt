@@ -22,18 +22,14 @@ pub(crate) fn check(alloc: Global, ready: &Ready) -> Result<Vec<u8>, Refusal>
     // Its clause says that there is one plan.
     has_plan();
     let relations = ready.bound.relations() as usize;
-    let Ok(plan) = plan_for(
+    let plan = plan_for(
         alloc,
         &ready.prepared,
         &SIZES[..relations],
         &ready.options.order,
-    ) else {
-        return Err(Refusal::Memory);
-    };
+    )?;
     let order = plan.order.as_slice();
     let lists = plan.lists.as_slice();
-    match report_on(alloc, ready, &plan.tree, order, lists, None) {
-        Ok(text) => Ok(text),
-        Err(_) => Err(Refusal::Memory),
-    }
+    let text = report_on(alloc, ready, &plan.tree, order, lists, None)?;
+    Ok(text)
 }

@@ -1,5 +1,6 @@
 // What the two sinks take of an answer.
 ghost use Rattle.std.specs.Prelude.{◌≡◌, ◌≤◌};
+ghost use Rattle.rpt_outside.specs.Seen.{put_to};
 ghost use Rattle.rpt_outside.specs.Whole.{bytes_of};
 ghost use Rattle.refusal_lines.specs.Message.{status_of};
 ghost use Rattle.rpt_cli.specs.Delivery.{Delivers, TakesLine};
@@ -13,7 +14,8 @@ pub(crate) fn deliver<S: Sink, M: Sink>(
     out: &mut S,
     messages: &mut M,
 ) -> u8
-    ensures delivers { Delivers S.taken S.faults M.taken M.faults out.old out.new messages.old messages.new result (bytes_of found) }
+    ensures delivers { Delivers (put_to S.Sink out.old out.new) (put_to M.Sink messages.old messages.new)
+        result (bytes_of found) }
     ensures later { (S.faults out.old ≤ S.faults out.new) × (M.faults messages.old ≤ M.faults messages.new) }
 {
     match found {
@@ -28,7 +30,7 @@ pub(crate) fn deliver<S: Sink, M: Sink>(
 // A fault while the line is put ends the line, and doesn't change the status.
 fn refuse<M: Sink>(refusal: &Refusal, messages: &mut M) -> u8
     ensures status { result ≡ status_of refusal.now }
-    ensures line { TakesLine M.taken M.faults messages.old messages.new refusal.now }
+    ensures line { TakesLine (put_to M.Sink messages.old messages.new) refusal.now }
     ensures later { M.faults messages.old ≤ M.faults messages.new }
 {
     let _ = put_line(refusal, messages);

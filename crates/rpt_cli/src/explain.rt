@@ -1,6 +1,7 @@
 // Mode explain: the report of how a query is answered, with the numbers of rows.
-ghost use Rattle.std.specs.Prelude.{◌≡◌, ◌++◌, ◌∷◌, [], IfOk, OnOk};
+ghost use Rattle.std.specs.Prelude.{◌≡◌, IfOk};
 ghost use Rattle.bound_query.specs.Answer.{AreTables, counts_of};
+ghost use Rattle.rpt_outside.specs.Seen.{seen};
 ghost use Rattle.rpt_outside.specs.Whole.{bytes_of};
 ghost use Rattle.rpt_engine.specs.Answered.{plan_of};
 ghost use Rattle.rpt_engine.specs.Prepared.{IsReady};
@@ -31,20 +32,15 @@ pub(crate) fn explain<R: Threads + Sync, F: Files, G: Gate + Sync>(
     gate: &G,
 ) -> Result<Vec<u8>, Refusal>
     requires { IsReady ready.now.bound ready.now.prepared ready.now.options }
-    ensures gives { Gives (F.is_missing files.old) (F.contents files.old) (F.faults files.old) (F.faults files.new)
+    ensures gives { Gives (seen F.Files files.old files.new)
         (explain_course ready.now.options.filter folder.now ready.now.bound ready.now.options.order) (bytes_of result) }
-    ensures kept { AreKept F.contents F.faults files.old files.new }
+    ensures kept { AreKept F.Files files.old files.new }
 {
-    let found = match answer_query(rt, alloc, ready, folder, files, gate) {
-        Ok(found) => found,
-        Err(refusal) => return Err(refusal),
-    };
+    let found = answer_query(rt, alloc, ready, folder, files, gate)?;
     let text = explain_text(alloc, ready, found.tables.as_slice(), &found.outcome);
     drop(found);
-    match text {
-        Ok(text) => Ok(text),
-        Err(_) => Err(Refusal::Memory),
-    }
+    let text = text?;
+    Ok(text)
 }
 
 /// The report of an outcome.
@@ -57,7 +53,8 @@ pub(crate) fn explain_text(
     requires ready { IsReady ready.now.bound ready.now.prepared ready.now.options }
     requires tables { AreTables ready.now.bound.query tables.now }
     requires tells { TellsRun ready.now.bound tables.now ready.now.options outcome.now }
-    ensures { IfOk result (λ text. text.items ≡ explain_text ready.now.options.filter ready.now.bound tables.now (plan_of outcome.now)) }
+    ensures { IfOk result (λ text. text.items
+        ≡ explain_text ready.now.options.filter ready.now.bound tables.now (plan_of outcome.now)) }
 {
     let rows = row_counts(alloc, &ready.bound, tables)?;
     report_outcome(alloc, ready, tables, rows.as_slice(), outcome)
@@ -74,7 +71,8 @@ fn report_outcome<'a>(
     requires ready { IsReady ready.now.bound ready.now.prepared ready.now.options }
     requires rows { rows.now ≡ counts_of ready.now.bound.query tables.now }
     requires tells { TellsRun ready.now.bound tables.now ready.now.options outcome.now }
-    ensures { IfOk result (λ text. text.items ≡ explain_text ready.now.options.filter ready.now.bound tables.now (plan_of outcome.now)) }
+    ensures { IfOk result (λ text. text.items
+        ≡ explain_text ready.now.options.filter ready.now.bound tables.now (plan_of outcome.now)) }
 {
     // Only the clauses name the tables.
     let _ = tables;
@@ -103,17 +101,7 @@ fn row_counts(alloc: Global, bound: &Bound, tables: &[Table]) -> Result<Vec<u32>
     let mut counts = Vec::new(alloc);
     for relation in 0..bound.relations() {
         let rows = table_at(bound, tables, relation).rows();
-        add(&mut counts, rows)?;
+        counts.push(rows)?;
     }
     Ok(counts)
-}
-
-// Adds a number.
-fn add(counts: &mut Vec<u32>, count: u32) -> Result<(), Memory>
-    ensures { OnOk result (counts.new.items ≡ counts.old.items ++ count ∷ []) }
-{
-    match counts.push(count) {
-        Ok(()) => Ok(()),
-        Err(_) => Err(Memory),
-    }
 }

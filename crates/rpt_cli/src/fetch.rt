@@ -1,6 +1,6 @@
 // Files that a command asks for.
 ghost use Rattle.std.specs.Prelude.{◌≡◌, ◌⊎◌, ◌≤◌, IfErr, IfOk, length};
-ghost use Rattle.refusal_lines.specs.declared.refusal.Refusal.TheVariants.{ReadFault, TooLarge, Memory};
+ghost use Rattle.refusal_lines.specs.declared.errors.Refusal.TheVariants.{ReadFault, TooLarge, Memory};
 ghost use Rattle.rpt_cli.specs.Command.{asks_within};
 ghost use Rattle.rpt_cli.specs.Steps.{AreKept, Passes, Stops};
 
@@ -17,9 +17,11 @@ pub(crate) fn fetch<F: Files>(
     limit: u32,
 ) -> Result<Vec<u8>, Refusal>
     ensures within { IfOk result (λ bytes. length bytes.items ≤ limit) }
-    ensures passes { IfOk result (λ bytes. Passes F.is_missing F.contents F.faults files.old files.new (asks_within limit name.now) bytes.items) }
-    ensures refused { IfErr result (λ e. Stops F.is_missing F.contents F.faults files.old files.new (asks_within limit name.now) e) }
-    ensures kept { AreKept F.contents F.faults files.old files.new }
+    ensures passes { IfOk result (λ bytes. Passes F.Files files.old files.new
+        (asks_within limit name.now) bytes.items) }
+    ensures refused { IfErr result (λ e. Stops F.Files files.old files.new
+        (asks_within limit name.now) e) }
+    ensures kept { AreKept F.Files files.old files.new }
 {
     match read_whole(alloc, files, name.bytes(), limit) {
         Ok(bytes) => Ok(bytes),

@@ -10,11 +10,11 @@ use safe_subjoin::has_first_unsafe;
 use sql_grammar::{has_a_reading, has_one_reading};
 use sql_lex::tokens_are_read;
 
-/// The theorem that there is an outcome; the call does nothing. Over files that tell their contents, the course of all words leads to one:
-/// the text or the refusal that is due, so that no clause on the outcome speaks of nothing.
+/// The theorem that there is an outcome; the call does nothing. Over files that tell their contents, the course of all
+/// words leads to one: the text or the refusal that is due, so that no clause on the outcome speaks of nothing.
 pub fn has_outcome()
-    ensures there { (told : List ℕ → Option (List ℕ)) (words : List (List ℕ)) → ((name : List ℕ) → IsSome (told name))
-        → (answer : Answer) × IsOutcome told (course words) answer }
+    ensures there { (told : List ℕ → Option (List ℕ)) (words : List (List ℕ))
+        → ((name : List ℕ) → IsSome (told name)) → (answer : Answer) × IsOutcome told (course words) answer }
 {
     tokens_are_read();
     has_a_reading();
@@ -27,7 +27,8 @@ pub fn has_outcome()
 
 /// The theorem that there is no second outcome; the call does nothing. Whatever the files tell, any course has one at most.
 pub fn has_one_outcome()
-    ensures one { (told : List ℕ → Option (List ℕ)) (course : Steps) (a b : Answer) → IsOutcome told course a → IsOutcome told course b → a ≡ b }
+    ensures one { (told : List ℕ → Option (List ℕ)) (course : Steps) (a b : Answer)
+        → IsOutcome told course a → IsOutcome told course b → a ≡ b }
 {
     tokens_are_read();
     has_a_reading();

@@ -1,5 +1,6 @@
 // A query that is bound, answered in a command's mode.
 ghost use Rattle.std.specs.Prelude.{◌≡◌};
+ghost use Rattle.rpt_outside.specs.Seen.{seen};
 ghost use Rattle.rpt_outside.specs.Whole.{bytes_of};
 ghost use Rattle.rpt_engine.specs.Prepared.{IsReady};
 ghost use Rattle.command_words.specs.Words.{IsWithinLimits};
@@ -32,8 +33,9 @@ pub(crate) fn answer_bound<R: Threads + Sync, F: Files, G: Gate + Sync>(
     gate: &G,
 ) -> Result<Vec<u8>, Refusal>
     requires fits { IsWithinLimits command.now }
-    ensures gives { Gives (F.is_missing files.old) (F.contents files.old) (F.faults files.old) (F.faults files.new) (query_course command.now bound.query) (bytes_of result) }
-    ensures kept { AreKept F.contents F.faults files.old files.new }
+    ensures gives { Gives (seen F.Files files.old files.new)
+        (query_course command.now bound.query) (bytes_of result) }
+    ensures kept { AreKept F.Files files.old files.new }
 {
     // Their clauses say that a query is prepared in one way, or refused for one reason.
     has_variables();
@@ -56,9 +58,10 @@ fn in_mode<R: Threads + Sync, F: Files, G: Gate + Sync>(
 ) -> Result<Vec<u8>, Refusal>
     requires ready { IsReady ready.now.bound ready.now.prepared ready.now.options }
     requires filter { ready.now.options.filter ≡ command.now.filter }
-    ensures gives { Gives (F.is_missing files.old) (F.contents files.old) (F.faults files.old) (F.faults files.new)
-        (mode_course command.now.mode command.now.filter command.now.folder ready.now.bound ready.now.options.order) (bytes_of result) }
-    ensures kept { AreKept F.contents F.faults files.old files.new }
+    ensures gives { Gives (seen F.Files files.old files.new)
+        (mode_course command.now.mode command.now.filter command.now.folder ready.now.bound
+        ready.now.options.order) (bytes_of result) }
+    ensures kept { AreKept F.Files files.old files.new }
 {
     match command.mode {
         Mode::Run => run(rt, alloc, ready, &command.folder, files, gate),

@@ -1,9 +1,9 @@
 // The order of relations that words say.
 ghost use Rattle.std.specs.Prelude.{◌≡◌, IfOk, IfSome, ◌+◌, ◌<◌, drop, length, map, nat_lt, position, take};
 ghost use Rattle.std.specs.List.{list_all, range_with_len};
-ghost use Rattle.join_graph.specs.JoinList.{has};
-ghost use Rattle.rpt_cli.specs.Orders.{is_comma, is_name, is_order, order_of, pieces_of, relation_named};
-ghost use Rattle.safe_subjoin.specs.SafeOrder.{IsOrder};
+ghost use Rattle.rpt_base.specs.Lists.{has};
+ghost use Rattle.rpt_cli.specs.Orders.{is_comma, is_name, order_of, pieces_of, relation_named};
+ghost use Rattle.rpt_base.specs.Orders.{is_order, IsOrder};
 ghost use Rattle.rpt_cli.specs.Steps.{SaysOrder};
 
 use binder::Bound;
@@ -23,9 +23,7 @@ pub(crate) fn order_of(
     let Some(text) = text else {
         return Ok(None);
     };
-    let Ok(order) = relations_named(alloc, bound, text.bytes()) else {
-        return Err(Refusal::Memory);
-    };
+    let order = relations_named(alloc, bound, text.bytes())?;
     if !is_order(bound.relations(), &order) {
         return Err(Refusal::OrderNames);
     }
@@ -39,17 +37,10 @@ fn relations_named(alloc: Global, bound: &Bound, text: &[u8]) -> Result<Vec<u32>
     let mut order = Vec::new(alloc);
     let mut rest = text;
     'pieces: while let Some(comma) = comma_in(rest) {
-        if order
-            .push(relation_named(bound, before(rest, comma)))
-            .is_err()
-        {
-            return Err(Memory);
-        }
+        order.push(relation_named(bound, before(rest, comma)))?;
         rest = behind(rest, comma);
     }
-    if order.push(relation_named(bound, rest)).is_err() {
-        return Err(Memory);
-    }
+    order.push(relation_named(bound, rest))?;
     Ok(order)
 }
 

@@ -2,7 +2,7 @@
 ghost use Rattle.std.specs.Prelude.{◌≡◌, ◌≤◌, ◌⊎◌, Err, IfErr, IfOk, Ok, Result, length};
 ghost use Rattle.rpt_base.specs.declared.limits.TheConstants.{MAX_SCRIPT_BYTES};
 ghost use Rattle.sql_grammar.specs.declared.tree.Script.{Script as Tree};
-ghost use Rattle.refusal_lines.specs.declared.refusal.Refusal.{Refusal as Why};
+ghost use Rattle.refusal_lines.specs.declared.errors.Refusal.{Refusal as Why};
 ghost use Rattle.rpt_cli.specs.Command.{bytes_course, query_of_script, script_course};
 ghost use Rattle.rpt_cli.specs.Scripts.{IsScript};
 ghost use Rattle.rpt_cli.specs.Steps.{AreKept, Passes, PassesUnasked, SaysScript, Stops, StopsUnasked};
@@ -23,14 +23,14 @@ pub(crate) fn read_query<F: Files>(
     files: &mut F,
     name: &Str,
 ) -> Result<Bound, Refusal>
-    ensures passes { IfOk result (λ bound. Passes F.is_missing F.contents F.faults files.old files.new (script_course name.now) bound.query) }
-    ensures refused { IfErr result (λ e. Stops F.is_missing F.contents F.faults files.old files.new (script_course name.now) e) }
-    ensures kept { AreKept F.contents F.faults files.old files.new }
+    ensures passes { IfOk result (λ bound. Passes F.Files files.old files.new
+        (script_course name.now) bound.query) }
+    ensures refused { IfErr result (λ e. Stops F.Files files.old files.new
+        (script_course name.now) e) }
+    ensures kept { AreKept F.Files files.old files.new }
 {
-    match fetch(alloc, files, name, MAX_SCRIPT_BYTES) {
-        Ok(bytes) => query_in(alloc, &bytes),
-        Err(refusal) => Err(refusal),
-    }
+    let bytes = fetch(alloc, files, name, MAX_SCRIPT_BYTES)?;
+    query_in(alloc, &bytes)
 }
 
 /// The query that the bytes of a script ask for.
@@ -67,7 +67,8 @@ fn read_script(alloc: Global, bytes: &[u8]) -> Result<Script, Refusal>
     requires { length bytes.now ≤ MAX_SCRIPT_BYTES }
     ensures says { SaysScript bytes.now result }
     ensures sources { IfOk result (λ script. 1 ≤ length script.select.sources) }
-    ensures only { (said : Result Tree Why) → IsScript bytes.now said → (result ≡ Err Refusal.Memory) ⊎ (result ≡ said) }
+    ensures only { (said : Result Tree Why) → IsScript bytes.now said
+        → (result ≡ Err Refusal.Memory) ⊎ (result ≡ said) }
 {
     let tokens = match lex(alloc, bytes) {
         Ok(tokens) => tokens,

@@ -1,7 +1,7 @@
 // A query that is ready to be answered, in the order that is given.
 ghost use Rattle.std.specs.Prelude.{◌≡◌, ◌⊎◌, Err, IfErr, IfOk, Ok};
 ghost use Rattle.command_words.specs.Words.{IsWithinLimits};
-ghost use Rattle.refusal_lines.specs.declared.refusal.Refusal.TheVariants.{Memory};
+ghost use Rattle.refusal_lines.specs.declared.errors.Refusal.TheVariants.{Memory};
 ghost use Rattle.rpt_engine.specs.Prepared.{IsReady};
 ghost use Rattle.rpt_cli.specs.Matters.{IsPrepared};
 ghost use Rattle.rpt_cli.specs.Steps.{why_unprepared};
@@ -30,7 +30,8 @@ pub(crate) fn make_ready(alloc: Global, bound: Bound, command: &Command) -> Resu
     ensures filter { IfOk result (λ ready. ready.options.filter ≡ command.now.filter) }
     ensures found { IfOk result (λ ready. IsPrepared bound.query command.now.order command.now.force
         (Ok (record { known = bound.known; order = ready.options.order }))) }
-    ensures refused { IfErr result (λ e. (e ≡ Memory) ⊎ IsPrepared bound.query command.now.order command.now.force (Err e)) }
+    ensures refused { IfErr result (λ e. (e ≡ Memory)
+        ⊎ IsPrepared bound.query command.now.order command.now.force (Err e)) }
 {
     match prepare_for(alloc, &bound, command) {
         Ok((prepared, options)) => Ok(Ready {
@@ -56,7 +57,8 @@ fn prepare_for(
     ensures filter { IfOk result (λ made. made.1.filter ≡ command.now.filter) }
     ensures found { IfOk result (λ made. IsPrepared bound.now.query command.now.order command.now.force
         (Ok (record { known = bound.now.known; order = made.1.order }))) }
-    ensures refused { IfErr result (λ e. (e ≡ Memory) ⊎ IsPrepared bound.now.query command.now.order command.now.force (Err e)) }
+    ensures refused { IfErr result (λ e. (e ≡ Memory)
+        ⊎ IsPrepared bound.now.query command.now.order command.now.force (Err e)) }
 {
     let mut options = Options {
         filter: command.filter,

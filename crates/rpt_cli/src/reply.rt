@@ -1,4 +1,5 @@
 // What the program replies to the words of a command line: a text, or a refusal.
+ghost use Rattle.rpt_outside.specs.Seen.{seen};
 ghost use Rattle.rpt_outside.specs.Whole.{bytes_of};
 ghost use Rattle.command_words.specs.Words.{IsWithinLimits, words_of};
 ghost use Rattle.rpt_cli.specs.Course.{Gives};
@@ -23,8 +24,9 @@ pub(crate) fn reply_to<R: Threads + Sync, F: Files, G: Gate + Sync>(
     files: &mut F,
     gate: &G,
 ) -> Result<Vec<u8>, Refusal>
-    ensures gives { Gives (F.is_missing files.old) (F.contents files.old) (F.faults files.old) (F.faults files.new) (course (words_of words.now)) (bytes_of result) }
-    ensures kept { AreKept F.contents F.faults files.old files.new }
+    ensures gives { Gives (seen F.Files files.old files.new)
+        (course (words_of words.now)) (bytes_of result) }
+    ensures kept { AreKept F.Files files.old files.new }
 {
     match read_words(alloc, words) {
         Ok(command) => follow(rt, alloc, &command, files, gate),
@@ -42,8 +44,9 @@ fn follow<R: Threads + Sync, F: Files, G: Gate + Sync>(
     gate: &G,
 ) -> Result<Vec<u8>, Refusal>
     requires fits { IsWithinLimits command.now }
-    ensures gives { Gives (F.is_missing files.old) (F.contents files.old) (F.faults files.old) (F.faults files.new) (command_course command.now) (bytes_of result) }
-    ensures kept { AreKept F.contents F.faults files.old files.new }
+    ensures gives { Gives (seen F.Files files.old files.new)
+        (command_course command.now) (bytes_of result) }
+    ensures kept { AreKept F.Files files.old files.new }
 {
     if is_made(command.mode) {
         answer_sample(rt, alloc, command, gate)
@@ -71,11 +74,10 @@ fn answer_files<R: Threads + Sync, F: Files, G: Gate + Sync>(
     gate: &G,
 ) -> Result<Vec<u8>, Refusal>
     requires fits { IsWithinLimits command.now }
-    ensures gives { Gives (F.is_missing files.old) (F.contents files.old) (F.faults files.old) (F.faults files.new) (files_course command.now) (bytes_of result) }
-    ensures kept { AreKept F.contents F.faults files.old files.new }
+    ensures gives { Gives (seen F.Files files.old files.new)
+        (files_course command.now) (bytes_of result) }
+    ensures kept { AreKept F.Files files.old files.new }
 {
-    match read_query(alloc, files, &command.script) {
-        Ok(bound) => answer_bound(rt, alloc, command, bound, files, gate),
-        Err(refusal) => Err(refusal),
-    }
+    let bound = read_query(alloc, files, &command.script)?;
+    answer_bound(rt, alloc, command, bound, files, gate)
 }

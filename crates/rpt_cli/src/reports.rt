@@ -22,7 +22,8 @@ pub(crate) fn report_on<'a>(
     run: Option<RunPart<'a>>,
 ) -> Result<Vec<u8>, Memory>
     requires ready { IsReady ready.now.bound ready.now.prepared ready.now.options }
-    requires plan { IsPlanFor ready.now.bound ready.now.options (record { tree = tree.now; order = order.now; lists = lists.now }) }
+    requires plan { IsPlanFor ready.now.bound ready.now.options
+        (record { tree = tree.now; order = order.now; lists = lists.now }) }
     requires run { IfSome run (IsRunOf (length ready.now.bound.query.table_of)) }
     ensures { IfOk result (λ text. text.items ≡ report_of ready.now.bound.query ready.now.bound.known
         tree.now order.now lists.now (option_map run_counts run.entry)) }

@@ -1,6 +1,7 @@
 // Mode run: the answer of a query.
 ghost use Rattle.std.specs.Prelude.{◌≡◌, IfOk};
 ghost use Rattle.bound_query.specs.Answer.{AreTables};
+ghost use Rattle.rpt_outside.specs.Seen.{seen};
 ghost use Rattle.rpt_outside.specs.Whole.{bytes_of};
 ghost use Rattle.rpt_engine.specs.Answered.{GivesAnswer};
 ghost use Rattle.rpt_engine.specs.Prepared.{IsReady};
@@ -30,22 +31,17 @@ pub(crate) fn run<R: Threads + Sync, F: Files, G: Gate + Sync>(
     gate: &G,
 ) -> Result<Vec<u8>, Refusal>
     requires { IsReady ready.now.bound ready.now.prepared ready.now.options }
-    ensures gives { Gives (F.is_missing files.old) (F.contents files.old) (F.faults files.old) (F.faults files.new)
+    ensures gives { Gives (seen F.Files files.old files.new)
         (run_course ready.now.options.filter folder.now ready.now.bound ready.now.options.order) (bytes_of result) }
-    ensures kept { AreKept F.contents F.faults files.old files.new }
+    ensures kept { AreKept F.Files files.old files.new }
 {
-    let found = match answer_query(rt, alloc, ready, folder, files, gate) {
-        Ok(found) => found,
-        Err(refusal) => return Err(refusal),
-    };
+    let found = answer_query(rt, alloc, ready, folder, files, gate)?;
     let tables = found.tables.as_slice();
     let text = answer_text(rt, alloc, &ready.bound, tables, &found.outcome);
     // Dropped by a call: what is held where a function branches makes its proof much larger.
     drop(found);
-    match text {
-        Ok(text) => Ok(text),
-        Err(_) => Err(Refusal::Memory),
-    }
+    let text = text?;
+    Ok(text)
 }
 
 /// The text of the tuples of all relations, however they were joined.

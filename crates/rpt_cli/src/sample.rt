@@ -29,16 +29,10 @@ pub(crate) fn answer_sample<R: Threads + Sync, G: Gate + Sync>(
     ensures { GivesUnasked (sample_course command.now) (bytes_of result) }
 {
     let number = sample_number(command.script.as_str()).unwrap_or(0);
-    let Ok(Sample { script, tables }) = sample(alloc, number) else {
-        return Err(Refusal::Memory);
-    };
-    let Ok(mut files) = files_in(alloc, &command.folder, tables) else {
-        return Err(Refusal::Memory);
-    };
-    match query_in(alloc, &script) {
-        Ok(bound) => answer_bound(rt, alloc, command, bound, &mut files, gate),
-        Err(refusal) => Err(refusal),
-    }
+    let Sample { script, tables } = sample(alloc, number)?;
+    let mut files = files_in(alloc, &command.folder, tables)?;
+    let bound = query_in(alloc, &script)?;
+    answer_bound(rt, alloc, command, bound, &mut files, gate)
 }
 
 // Tables as the files of a folder.
@@ -49,9 +43,7 @@ fn files_in(alloc: Global, folder: &Str, tables: Vec<(Name, Vec<u8>)>) -> Result
     let mut files = Vec::new(alloc);
     for (name, text) in tables {
         let file = file_text(alloc, folder, &name)?.into_bytes();
-        if files.push((file, text)).is_err() {
-            return Err(Memory);
-        }
+        files.push((file, text))?;
     }
     Ok(HeldFiles::new(files))
 }

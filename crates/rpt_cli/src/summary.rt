@@ -1,6 +1,7 @@
 // Mode sample: how a query is answered, and the size and the hash of its answer's text.
 ghost use Rattle.std.specs.Prelude.{◌≡◌, ◌<◌, ◌++◌, IfOk, OnOk};
 ghost use Rattle.bound_query.specs.Answer.{AreTables};
+ghost use Rattle.rpt_outside.specs.Seen.{seen};
 ghost use Rattle.rpt_outside.specs.Whole.{bytes_of};
 ghost use Rattle.rpt_engine.specs.Answered.{GivesAnswer, plan_of};
 ghost use Rattle.rpt_engine.specs.Prepared.{IsReady};
@@ -22,7 +23,8 @@ use rpt_outside::{Files, Gate};
 use std::alloc::Global;
 use std::thread::Threads;
 
-/// Loads the tables of a query that is ready, answers it over them, and reports how, and how long the answer's text is and its hash.
+/// Loads the tables of a query that is ready, answers it over them, and reports how, and how long the answer's text is
+/// and its hash.
 pub(crate) fn summary<R: Threads + Sync, F: Files, G: Gate + Sync>(
     rt: &R,
     alloc: Global,
@@ -32,20 +34,15 @@ pub(crate) fn summary<R: Threads + Sync, F: Files, G: Gate + Sync>(
     gate: &G,
 ) -> Result<Vec<u8>, Refusal>
     requires { IsReady ready.now.bound ready.now.prepared ready.now.options }
-    ensures gives { Gives (F.is_missing files.old) (F.contents files.old) (F.faults files.old) (F.faults files.new)
+    ensures gives { Gives (seen F.Files files.old files.new)
         (summary_course ready.now.options.filter folder.now ready.now.bound ready.now.options.order) (bytes_of result) }
-    ensures kept { AreKept F.contents F.faults files.old files.new }
+    ensures kept { AreKept F.Files files.old files.new }
 {
-    let found = match answer_query(rt, alloc, ready, folder, files, gate) {
-        Ok(found) => found,
-        Err(refusal) => return Err(refusal),
-    };
+    let found = answer_query(rt, alloc, ready, folder, files, gate)?;
     let text = summary_text(rt, alloc, ready, found.tables.as_slice(), &found.outcome);
     drop(found);
-    match text {
-        Ok(text) => Ok(text),
-        Err(_) => Err(Refusal::Memory),
-    }
+    let text = text?;
+    Ok(text)
 }
 
 // The report of an outcome, and the size and the hash of the answer's text.
@@ -60,7 +57,8 @@ fn summary_text<R: Threads + Sync>(
     requires tables { AreTables ready.now.bound.query tables.now }
     requires answer { GivesAnswer ready.now.bound tables.now outcome.now }
     requires tells { TellsRun ready.now.bound tables.now ready.now.options outcome.now }
-    ensures { IfOk result (λ text. text.items ≡ summary_text ready.now.options.filter ready.now.bound tables.now (plan_of outcome.now)) }
+    ensures { IfOk result (λ text. text.items
+        ≡ summary_text ready.now.options.filter ready.now.bound tables.now (plan_of outcome.now)) }
 {
     let mut text = explain_text(alloc, ready, tables, outcome)?;
     let answer = answer_text(rt, alloc, &ready.bound, tables, outcome)?;
@@ -80,10 +78,8 @@ fn put_sizes(alloc: Global, text: &mut Vec<u8>, answer: &[u8]) -> Result<(), Mem
 fn put_size(alloc: Global, text: &mut Vec<u8>, bytes: usize) -> Result<(), Memory>
     ensures { OnOk result (text.new.items ≡ text.old.items ++ size_line bytes) }
 {
-    match format!(in alloc; "output bytes {bytes}\n") {
-        Ok(line) => put(text, line.as_bytes()),
-        Err(_) => Err(Memory),
-    }
+    let line = format!(in alloc; "output bytes {bytes}\n")?;
+    put(text, line.as_bytes())
 }
 
 // A hash in 16 hexadecimal digits.
@@ -116,8 +112,6 @@ fn hex_digit(hash: u64, place: u32) -> u8
 fn put(text: &mut Vec<u8>, piece: &[u8]) -> Result<(), Memory>
     ensures { OnOk result (text.new.items ≡ text.old.items ++ piece.now) }
 {
-    match text.extend_from_slice(piece) {
-        Ok(()) => Ok(()),
-        Err(_) => Err(Memory),
-    }
+    text.extend_from_slice(piece)?;
+    Ok(())
 }

@@ -3,7 +3,7 @@ use Rattle.std.proofs.Common.{ℕ, List}
 use Rattle.std.specs.Prelude.{IfSome, None, Option, Some}
 use Rattle.join_graph.specs.declared.tree.Tree.{Tree}
 use Rattle.join_graph.specs.JoinList.{HasParents}
-use Rattle.safe_subjoin.specs.SafeOrder.{IsOrder}
+use Rattle.rpt_base.specs.Orders.{IsOrder}
 use Rattle.rpt_engine.specs.Planned.{order_or}
 use Rattle.rpt_engine.proofs.SequenceFacts.{sequence-order}
 

@@ -1,14 +1,18 @@
 -- The sequence of a list with parents is an order.
-use Rattle.std.proofs.Common.{◌≡◌, ℕ, ◌+◌, ◌<◌, ◌≤◌, Bool, true, false, ◌||◌, List, [], ◌∷◌, length, map, refl, sym, ap, ◌∙◌, eqb, arith}
+use Rattle.std.proofs.Common.{◌≡◌, ℕ, ◌+◌, ◌<◌, ◌≤◌, Bool, true, false, ◌||◌, List, [], ◌∷◌, length, refl, sym, ap, ◌∙◌, eqb, arith}
 use Rattle.std.specs.List.{AllByRecursion, IsDistinct, list_any}
 use Rattle.std.proofs.lemmas.Bool.{lt-ltb, or_parts}
 use Rattle.std.proofs.lemmas.List.{length-map}
 use Rattle.std.proofs.lemmas.Map.Steps.{length-le_from_distinct_below, le-length_from_below}
 use Rattle.join_graph.specs.declared.tree.Link.{Link}
-use Rattle.join_graph.specs.JoinList.{has, everyone, listed_by, Extends, HasParents}
-use Rattle.join_graph.proofs.ListFacts.{everyone-below, extends-below, only-root, same_truth}
+use Rattle.join_graph.specs.JoinList.{everyone, listed_by, Extends, HasParents}
+use Rattle.rpt_base.specs.Lists.{has}
+use Rattle.join_graph.proofs.ListFacts.{everyone-below, extends-below, only-root, has-children}
+use Rattle.rpt_base.proofs.BoolFacts.{same_truth}
 use Rattle.largest_root.proofs.ListedFacts.{has-listed_by}
-use Rattle.safe_subjoin.specs.SafeOrder.{IsOrder, sequence}
+use Rattle.safe_subjoin.specs.SafeOrder.{sequence}
+use Rattle.rpt_base.specs.Orders.{IsOrder}
+use Rattle.rpt_base.proofs.OrderFacts.{order-from_has}
 
 length-listed : (listed : List ℕ) (links : List Link) → length (listed_by listed links) ≡ length listed + length links
 length-listed listed [] = omega arith
@@ -22,10 +26,6 @@ listed-distinct : (n : ℕ) (listed : List ℕ) (links : List Link) → IsDistin
 unfolding IsDistinct
 listed-distinct n listed [] apart h = apart
 listed-distinct n listed (l ∷ links) apart h = listed-distinct n (l.child ∷ listed) links (new-apart l.child listed h.1, apart) h.3
-
-has-children : (r : ℕ) (links : List Link) → list_any (λ l. eqb r l.child) links ≡ has r (map (λ (l : Link). l.child) links)
-has-children r [] = refl
-has-children r (l ∷ links) = ap (λ b. eqb r l.child || b) (has-children r links)
 
 has-sequence : (r root : ℕ) (links : List Link) → has r (listed_by (root ∷ []) links) ≡ has r (sequence root links)
 has-sequence r root links =
@@ -41,7 +41,7 @@ root-distinct root = (tt, tt)
 
 -- the sequence of a list with parents is an order: it has each of n relations once
 pub sequence-order : (n root : ℕ) (links : List Link) → HasParents n root links → IsOrder n (sequence root links)
-sequence-order n root links h = record { count = count; all = λ r. sym (has-sequence r root links) ∙ whole r }
+sequence-order n root links h = order-from_has n (sequence root links) count (λ r. sym (has-sequence r root links) ∙ whole r)
   where
     listed : List ℕ
     listed = listed_by (root ∷ []) links

@@ -5,7 +5,8 @@ use Rattle.bound_query.specs.Query.{BoundQuery}
 use Rattle.join_graph.specs.JoinList.{IsAcyclic}
 use Rattle.join_graph.specs.SafeSet.{IsSafe}
 use Rattle.largest_root.specs.Greedy.{IsCyclic}
-use Rattle.safe_subjoin.specs.SafeOrder.{IsFirstUnsafe, IsOrder, first_of}
+use Rattle.safe_subjoin.specs.SafeOrder.{IsFirstUnsafe, first_of}
+use Rattle.rpt_base.specs.Orders.{IsOrder}
 use Rattle.rpt_engine.specs.declared.errors.PrepareError.{PrepareError}
 use Rattle.rpt_engine.specs.declared.errors.PrepareError.TheVariants.{Cyclic, UnsafeOrder, Memory}
 use Rattle.rpt_engine.specs.declared.options.Options.{Options}

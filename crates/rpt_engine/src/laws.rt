@@ -1,7 +1,7 @@
 // What the definition of plans says of itself.
 ghost use Rattle.std.specs.Prelude.{◌≡◌, ℕ, IfSome, List, Option, length};
 ghost use Rattle.join_graph.specs.JoinList.{AreRising, IsAcyclic};
-ghost use Rattle.safe_subjoin.specs.SafeOrder.{IsOrder};
+ghost use Rattle.rpt_base.specs.Orders.{IsOrder};
 ghost use Rattle.rpt_engine.specs.declared.planning.Plan.{Plan};
 ghost use Rattle.rpt_engine.specs.Planned.{IsPlan};
 

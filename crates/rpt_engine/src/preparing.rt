@@ -1,7 +1,7 @@
 // Whether a query can be answered along an order.
-ghost use Rattle.std.specs.Prelude.{◌≡◌, ℕ, Bool, IfErr, IfOk, IfSome, List, MatchResult, Option, length};
+ghost use Rattle.std.specs.Prelude.{◌≡◌, ℕ, Bool, IfErr, IfOk, IfSome, List, Option, length};
 ghost use Rattle.join_graph.specs.JoinList.{IsAcyclic};
-ghost use Rattle.safe_subjoin.specs.SafeOrder.{IsOrder};
+ghost use Rattle.rpt_base.specs.Orders.{IsOrder};
 ghost use Rattle.rpt_engine.specs.Prepared.{IsAllowed, IsUnprepared};
 
 use crate::errors::PrepareError;

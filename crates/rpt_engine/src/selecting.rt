@@ -25,13 +25,9 @@ impl Selection {
         ensures counts { OnOk result (self.new.counts.items ≡ self.old.counts.items ++ length rows.items ∷ []) }
     {
         let count = rows.len() as u32;
-        if self.counts.push(count).is_err() {
-            return Err(Memory);
-        }
-        match self.rows.push(Listed::from_vec(rows)) {
-            Ok(()) => Ok(()),
-            Err(_) => Err(Memory),
-        }
+        self.counts.push(count)?;
+        self.rows.push(Listed::from_vec(rows))?;
+        Ok(())
     }
 }
 

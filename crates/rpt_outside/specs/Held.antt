@@ -1,6 +1,7 @@
 -- Files that are held in memory, as pairs of a name and its bytes.
 -- Words of this crate's own contracts.
-use Rattle.std.specs.Prelude.{ℕ, ◌==◌, Bool, false, not, List, [], drop, Option, None, Some, Vec, zero, suc, nat_lt, length, ◌∷◌, if◌then◌else◌, slice_index_or, bytes_eq}
+use Rattle.std.specs.Prelude.{ℕ, ◌==◌, zero, suc, nat_lt, Bool, false, not, if◌then◌else◌, Option, None, Some}
+use Rattle.std.specs.Prelude.{List, [], ◌∷◌, Vec, drop, length, slice_index_or, bytes_eq}
 use Rattle.std.specs.List.{position_or_len}
 
 -- the place of the first file of a name, or the number of files

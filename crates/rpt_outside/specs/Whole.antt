@@ -3,16 +3,18 @@
 use Rattle.std.specs.Prelude.{◌≡◌, ◌⊎◌, ℕ, ◌<◌, ◌≤◌, Bool, true, false, List, length, Option, Result, Ok, Err, Vec}
 use Rattle.std.specs.Io.KnownBytes.{Consumes, IsAtEnd}
 use Rattle.rpt_outside.specs.Causes.{HasContents, Rose}
-use Rattle.rpt_outside.specs.declared.whole.ReadError.{ReadError}
-use Rattle.rpt_outside.specs.declared.whole.ReadError.TheVariants.{Failed, TooLarge, Memory}
+use Rattle.rpt_outside.specs.Seen.{FilesSeen}
+use Rattle.rpt_outside.specs.declared.errors.ReadError.{ReadError}
+use Rattle.rpt_outside.specs.declared.errors.ReadError.TheVariants.{Failed, TooLarge, Memory}
 
 -- The whole contents of a file that is there, within the limit; or a fault, where this name's count rose; or contents of more than
 -- the limit; or want of memory, which may always be.
-abbrev pub Reads : Bool → Option (List ℕ) → ℕ → List ℕ → (List ℕ → ℕ) → (List ℕ → ℕ) → Result (List ℕ) ReadError → Type 0
-Reads missing told limit name before now (Ok bytes) = HasContents missing told bytes × (length bytes ≤ limit)
-Reads missing told limit name before now (Err Failed) = Rose (before name) (now name)
-Reads missing told limit name before now (Err TooLarge) = (bytes : List ℕ) × HasContents missing told bytes × (limit < length bytes)
-Reads missing told limit name before now (Err Memory) = Unit {0}
+abbrev pub Reads : FilesSeen → ℕ → List ℕ → Result (List ℕ) ReadError → Type 0
+Reads seen limit name (Ok bytes) = HasContents (seen.missing name) (seen.told name) bytes × (length bytes ≤ limit)
+Reads seen limit name (Err Failed) = Rose (seen.before name) (seen.now name)
+Reads seen limit name (Err TooLarge) =
+    (bytes : List ℕ) × HasContents (seen.missing name) (seen.told name) bytes × (limit < length bytes)
+Reads seen limit name (Err Memory) = Unit {0}
 
 -- the file of this name is started, and some of its bytes are read
 abbrev pub IsReadInPart : Option (List ℕ) → Option (List ℕ) → (List ℕ → Bool) → List ℕ → Type 0

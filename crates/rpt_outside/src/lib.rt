@@ -6,6 +6,7 @@
 //! calls fail by number. `read_whole` reads one file to its end within a limit.
 #![tactic(auto)]
 
+mod errors;
 mod folder;
 mod held_files;
 mod meet_gate;
@@ -15,6 +16,7 @@ mod stream;
 mod traits;
 mod whole;
 
+pub use errors::ReadError;
 pub use folder::FolderFiles;
 pub use held_files::HeldFiles;
 pub use meet_gate::MeetGate;
@@ -22,4 +24,4 @@ pub use memory_files::MemoryFiles;
 pub use memory_sink::MemorySink;
 pub use stream::StreamSink;
 pub use traits::{Failed, Files, Gate, OpenGate, Sink};
-pub use whole::{ReadError, read_whole};
+pub use whole::read_whole;

@@ -1,21 +1,12 @@
 // A whole file within a limit.
 ghost use Rattle.std.specs.Prelude.{◌≡◌, IfOk, length};
 ghost use Rattle.rpt_outside.specs.Causes.{NeverFalls};
+ghost use Rattle.rpt_outside.specs.Seen.{seen};
 ghost use Rattle.rpt_outside.specs.Whole.{Leaves, Reads, bytes_of};
 
+use crate::errors::ReadError;
 use crate::traits::Files;
 use std::alloc::{AllocError, Global};
-
-/// Why there are no bytes of a file.
-#[derive(Clone, Copy, Debug, PartialEq, Eq)]
-pub enum ReadError {
-    /// A call failed, and the count of the file's name rose.
-    Failed,
-    /// The file has more bytes than the limit.
-    TooLarge,
-    /// Want of memory.
-    Memory,
-}
 
 // The bytes of a read.
 const PIECE: usize = 65_536;
@@ -29,7 +20,7 @@ pub fn read_whole<F: Files>(
     name: &[u8],
     limit: u32,
 ) -> Result<Vec<u8>, ReadError>
-    ensures reads { Reads (F.is_missing files.old name.now) (F.contents files.old name.now) limit name.now (F.faults files.old) (F.faults files.new) (bytes_of result) }
+    ensures reads { Reads (seen F.Files files.old files.new) limit name.now (bytes_of result) }
     ensures leaves { Leaves (F.contents files.old name.now) (F.left files.new) (F.is_started files.new) name.now (bytes_of result) }
     ensures missing { F.is_missing files.new ≡ F.is_missing files.old }
     ensures contents { F.contents files.new ≡ F.contents files.old }

@@ -8,9 +8,12 @@ use Rattle.std.proofs.lemmas.Bool.{both_ways, cases_eq, cases_lt, ne_eqb, or_cas
 use Rattle.std.proofs.lemmas.List.Folds.{list_any_more, list_any_at}
 use Rattle.rpt_base.specs.declared.sets.RelSet.{RelSet}
 use Rattle.join_graph.specs.declared.tree.Tree.{Tree}
-use Rattle.join_graph.specs.JoinList.{has, set_of, IsSetOf}
+use Rattle.join_graph.specs.JoinList.{set_of, IsSetOf}
+use Rattle.rpt_base.specs.Lists.{has}
 use Rattle.join_graph.specs.SafeSet.{IsSafe}
-use Rattle.safe_subjoin.specs.SafeOrder.{IsSafeList, IsOrder, first_of}
+use Rattle.safe_subjoin.specs.SafeOrder.{IsSafeList, first_of}
+use Rattle.rpt_base.specs.Orders.{IsOrder}
+use Rattle.rpt_base.proofs.OrderFacts.{order-has}
 
 -- a set with one more bit
 pub one-more : (n k q : ℕ) → k < 32 → set_of (record { 0 = bit_or n (1 * 2 ^ k % 4294967296) }) q ≡ (eqb q k || set_of (record { 0 = n }) q)
@@ -36,12 +39,12 @@ module _ (n : ℕ) (order : List ℕ) (is_order : IsOrder n order) where
   pub order-small : n ≤ 16 → All (λ r. r < 32) order
   order-small few i d l =
       let below : get_or order i d < n =
-      ltb-true _ n (sym (is_order.all (get_or order i d)) ∙ list_any_at (λ y. eqb (get_or order i d) y) order i d l (eq-eqb _ _ refl)) in
+      ltb-true _ n (sym (order-has n order is_order (get_or order i d)) ∙ list_any_at (λ y. eqb (get_or order i d) y) order i d l (eq-eqb _ _ refl)) in
       omega arith
 
   -- a prefix has relations of the order alone
   pub prefix-below : (k q : ℕ) → first_of order k q ≡ true → q < n
-  prefix-below k q h = ltb-true q n (sym (is_order.all q) ∙ take-has q k order h)
+  prefix-below k q h = ltb-true q n (sym (order-has n order is_order q) ∙ take-has q k order h)
 
   -- and has the last that was put to it
   pub prefix-last : (i : ℕ) → i < length order → first_of order (i + 1) (get_or order i 0) ≡ true

@@ -1,16 +1,14 @@
 -- The prefixes of a join list are safe sets.
-use Rattle.std.proofs.Common.{◌≡◌, ℕ, zero, suc, ◌≤◌, Bool, true, false, ◌||◌, List, [], ◌∷◌, map, take, drop, refl, sym, ap, ◌∙◌, eqb, arith}
+use Rattle.std.proofs.Common.{◌≡◌, ℕ, zero, suc, ◌≤◌, Bool, true, false, ◌||◌, List, [], ◌∷◌, take, drop, refl, sym, ap, ◌∙◌, eqb, arith}
 use Rattle.std.specs.List.{list_any}
 use Rattle.std.proofs.lemmas.List.{take-append-drop, take-map}
 use Rattle.join_graph.specs.declared.tree.Link.{Link}
-use Rattle.join_graph.specs.JoinList.{has, listed_by, IsJoinList}
+use Rattle.join_graph.specs.JoinList.{listed_by, IsJoinList}
+use Rattle.rpt_base.specs.Lists.{has}
 use Rattle.join_graph.specs.SafeSet.{IsSafe}
+use Rattle.join_graph.proofs.ListFacts.{has-children}
 use Rattle.largest_root.proofs.ListedFacts.{has-listed_by}
 use Rattle.safe_subjoin.specs.SafeOrder.{first_of, sequence}
-
-has-children : (r : ℕ) (links : List Link) → list_any (λ l. eqb r l.child) links ≡ has r (map (λ (l : Link). l.child) links)
-has-children r [] = refl
-has-children r (l ∷ links) = ap (λ b. eqb r l.child || b) (has-children r links)
 
 has-front : (r root : ℕ) (links : List Link) (k : ℕ)
     → has r (listed_by (root ∷ []) (take k links)) ≡ first_of (sequence root links) (suc k) r

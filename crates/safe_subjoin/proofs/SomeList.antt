@@ -12,7 +12,8 @@ use Rattle.join_graph.proofs.WeightFacts.{distinct_vars}
 use Rattle.largest_root.specs.Greedy.{IsGreedyList}
 use Rattle.largest_root.proofs.GreatestFacts.{greedy_parents_from}
 use Rattle.largest_root.proofs.SomeList.{list-there}
-use Rattle.safe_subjoin.specs.SafeOrder.{AreListsOfPrefixes, IsFirstUnsafe, IsListOf, IsOrder, IsSafeList, first_of}
+use Rattle.safe_subjoin.specs.SafeOrder.{AreListsOfPrefixes, IsFirstUnsafe, IsListOf, IsSafeList, first_of}
+use Rattle.rpt_base.specs.Orders.{IsOrder}
 use Rattle.safe_subjoin.proofs.OrderFacts.{each-push, prefix-below, prefix-last}
 use Rattle.safe_subjoin.proofs.SetFacts.{list-safe, list-unsafe}
 

@@ -1,7 +1,9 @@
 -- Sets of relations worked by hand.
 use Rattle.std.proofs.Common.{◌≡◌, ℕ, ◌<◌, Bool, true, List, [], ◌∷◌, refl, inr, arith}
 use Rattle.join_graph.specs.declared.tree.Link.{Link}
-use Rattle.join_graph.specs.JoinList.{has, everyone}
+use Rattle.join_graph.specs.JoinList.{everyone}
+use Rattle.rpt_base.specs.Lists.{has}
+use Rattle.rpt_base.proofs.NumberFacts.{differ}
 use Rattle.join_graph.specs.SafeSet.{IsSafe}
 use Rattle.join_graph.specs.Weights.{weight_of, total}
 use Rattle.join_graph.proofs.JoinChecks.{is_join_list-holds}
@@ -16,9 +18,6 @@ use Rattle.safe_subjoin.proofs.PrefixFacts.{prefix-safe}
 
 least-first : (set : ℕ → Bool) → set 0 ≡ true → IsLargest no_sizes set 0
 least-first set h = (h, λ i s. inr (refl, omega arith))
-
-differ : (x y : ℕ) → x < y → x ≡ y → ⊥
-differ x y l e = omega arith
 
 -- a and b of a, b, c and u: the tree that lists them first weighs 5 of the 6 that are needed
 pub pair-unsafe : IsSafe covered (everyone 2) → ⊥

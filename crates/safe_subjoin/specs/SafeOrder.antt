@@ -2,7 +2,8 @@
 use Rattle.std.specs.Prelude.{◌≡◌, ℕ, ◌+◌, ◌<◌, ◌≤◌, Bool, List, [], ◌∷◌, length, map, take, Option, MatchOption, slice_index_or}
 use Rattle.join_graph.specs.declared.tree.Link.{Link}
 use Rattle.join_graph.specs.declared.tree.Tree.{Tree}
-use Rattle.join_graph.specs.JoinList.{has, everyone, BeginsWith, IsJoinList}
+use Rattle.join_graph.specs.JoinList.{everyone, BeginsWith, IsJoinList}
+use Rattle.rpt_base.specs.Lists.{has}
 use Rattle.join_graph.specs.Weights.{weight_of}
 use Rattle.join_graph.specs.SafeSet.{IsSafe}
 use Rattle.largest_root.specs.Greedy.{IsGreedyList}

@@ -3,7 +3,8 @@ ghost use Rattle.std.specs.Prelude.{◌≡◌, ℕ, ◌≤◌, ◌⊎◌, List, 
 ghost use Rattle.join_graph.specs.declared.tree.Tree.{Tree};
 ghost use Rattle.join_graph.specs.JoinList.{AreRising};
 ghost use Rattle.join_graph.specs.SafeSet.{IsSafe};
-ghost use Rattle.safe_subjoin.specs.SafeOrder.{AreListsOfPrefixes, IsFirstUnsafe, IsOrder, first_of};
+ghost use Rattle.safe_subjoin.specs.SafeOrder.{AreListsOfPrefixes, IsFirstUnsafe, first_of};
+ghost use Rattle.rpt_base.specs.Orders.{IsOrder};
 
 /// The theorem on what `safe_lists` gives, for all relations and orders; the call does nothing. There is such a list for the
 /// prefixes of each order, and there is only one.

@@ -2,7 +2,8 @@
 ghost use Rattle.std.specs.Prelude.{◌≡◌, ℕ, ◌<◌, ◌≤◌, ◌==◌, ◌||◌, length, IfOk, MatchResult};
 ghost use Rattle.std.specs.List.{All};
 ghost use Rattle.join_graph.specs.JoinList.{IsAcyclic, IsSetOf, set_of};
-ghost use Rattle.safe_subjoin.specs.SafeOrder.{AreListsOfPrefixes, AreSafeLists, IsListOf, IsOrder, IsOrderRefused, first_of};
+ghost use Rattle.safe_subjoin.specs.SafeOrder.{AreListsOfPrefixes, AreSafeLists, IsListOf, IsOrderRefused, first_of};
+ghost use Rattle.rpt_base.specs.Orders.{IsOrder};
 
 use crate::errors::{OrderError, SetError};
 use crate::sets::safe_set;

@@ -1,16 +1,9 @@
 -- The lines of rows, one after the other.
 use Rattle.std.proofs.Common.{◌≡◌, ◌∙◌, ap, sym, arith, ℕ, ◌+◌, ◌≤◌, List, [], ◌∷◌, ◌++◌}
 use Rattle.std.specs.List.{flat_map, range_with_len}
-use Rattle.std.proofs.lemmas.List.{append-nil, flat_map_more, map-id}
-use Rattle.std.proofs.lemmas.List.FromFn.{map-range_with_len_more}
+use Rattle.std.proofs.lemmas.List.{append-nil, flat_map_more}
+use Rattle.rpt_base.proofs.RangeFacts.{range-more}
 use Rattle.sample_gen.specs.Tables.{rows_text}
-
--- one number more
-range-more : (n : ℕ) → range_with_len 0 (n + 1) ≡ range_with_len 0 n ++ n ∷ []
-range-more n =
-    sym (map-id (range_with_len 0 (n + 1)))
-    ∙ map-range_with_len_more (λ k. k) 0 n n (omega arith)
-    ∙ ap (λ ids. ids ++ n ∷ []) (map-id (range_with_len 0 n))
 
 module _ (row : ℕ → List ℕ) (front : List ℕ) where
   -- no row

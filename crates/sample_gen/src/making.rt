@@ -60,18 +60,14 @@ fn put_table(
         ≡ map named_text tables.old.items ++ (name.now, text.items) ∷ []) }
 {
     let name = Name::make(alloc, name)?;
-    match tables.push((name, text)) {
-        Ok(()) => Ok(()),
-        Err(_) => Err(Memory),
-    }
+    tables.push((name, text))?;
+    Ok(())
 }
 
 fn script(alloc: Global) -> Result<Vec<u8>, Memory>
     ensures script { IfOk result (λ script. script.items ≡ sample_script) }
     ensures short { IfOk result (λ script. length script.items ≤ MAX_SCRIPT_BYTES) }
 {
-    match Vec::from_slice(alloc, SCRIPT) {
-        Ok(script) => Ok(script),
-        Err(_) => Err(Memory),
-    }
+    let script = Vec::from_slice(alloc, SCRIPT)?;
+    Ok(script)
 }

@@ -9,10 +9,8 @@ use rpt_base::Memory;
 pub(crate) fn put(out: &mut Vec<u8>, bytes: &[u8]) -> Result<(), Memory>
     ensures { OnOk result (out.new.items ≡ out.old.items ++ bytes.now) }
 {
-    match out.extend_from_slice(bytes) {
-        Ok(()) => Ok(()),
-        Err(_) => Err(Memory),
-    }
+    out.extend_from_slice(bytes)?;
+    Ok(())
 }
 
 /// A number in decimal. Its text is written to a buffer on the stack.

@@ -1,7 +1,7 @@
 // The conditions of syntax trees.
 use case_text::put;
-use rpt_base::Value;
-use sql_text::{ColumnName, Cond, Expr, Op};
+use rpt_base::{Comparison, Value};
+use sql_text::{ColumnName, Cond, Expr};
 
 /// Puts a condition. A place stands before each test and each operand that has one.
 #[cycle(cond)]
@@ -91,14 +91,14 @@ fn put_head(at: u32, negated: bool, word: &str, operand: &Expr, given: &mut Stri
     put_expr(operand, given)
 }
 
-fn op_text(op: Op) -> &'static str {
+fn op_text(op: Comparison) -> &'static str {
     match op {
-        Op::Eq => "=",
-        Op::Ne => "<>",
-        Op::Lt => "<",
-        Op::Le => "<=",
-        Op::Gt => ">",
-        Op::Ge => ">=",
+        Comparison::Eq => "=",
+        Comparison::Ne => "<>",
+        Comparison::Lt => "<",
+        Comparison::Le => "<=",
+        Comparison::Gt => ">",
+        Comparison::Ge => ">=",
     }
 }
 

@@ -51,10 +51,13 @@ fn printed_tokens(alloc: Global, tokens: &[Token], end: u32) -> Result<Vec<u8>, 
     }
 }
 
-// The tree goes with the call, since one that is held where a function branches makes its proof much larger.
+// The tree goes with the call and is dropped in one, since one that is held where a function branches or ends makes its proof much
+// larger.
 fn printed_tree(alloc: Global, script: Script) -> Result<Vec<u8>, CaseError>
     requires well_formed { IsWellFormed script }
     requires levels { script_levels script ≤ 64 }
 {
-    print(alloc, &script).map_err(|_| CaseError::Memory)
+    let text = print(alloc, &script);
+    drop(script);
+    Ok(text?)
 }

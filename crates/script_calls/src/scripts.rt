@@ -1,5 +1,6 @@
 // What is asked of a script, from its bytes on.
 ghost use Rattle.std.specs.Prelude.{◌≤◌, length};
+ghost use Rattle.rpt_base.specs.declared.limits.TheConstants.{MAX_LEVELS};
 ghost use Rattle.sql_grammar.specs.Formed.{IsWellFormed};
 ghost use Rattle.sql_print.specs.Printed.{script_levels};
 
@@ -57,7 +58,8 @@ fn put_parsed(
     }
 }
 
-// The tree goes with the call, since one that is held where a function branches makes its proof much larger.
+// The tree goes with the call and is dropped in one, since one that is held where a function branches or ends makes its proof much
+// larger.
 fn put_tree_of(
     alloc: Global,
     word: &str,
@@ -68,13 +70,15 @@ fn put_tree_of(
     requires levels { script_levels script ≤ 64 }
     requires sources { 1 ≤ length script.select.sources }
 {
-    put_read(alloc, word, &script, given)
+    let done = put_read(alloc, word, &script, given);
+    drop(script);
+    done
 }
 
 // What is asked of a script that was read.
 fn put_read(alloc: Global, word: &str, script: &Script, given: &mut String) -> Result<(), CaseError>
     requires well_formed { IsWellFormed script.now }
-    requires levels { script_levels script.now ≤ 64 }
+    requires levels { script_levels script.now ≤ MAX_LEVELS }
     requires sources { 1 ≤ length script.now.select.sources }
 {
     match word {

@@ -10,7 +10,7 @@ use Rattle.sql_grammar.specs.declared.tree.Cond.{map-Cond, roll-Cond}
 use Rattle.sql_grammar.specs.declared.tree.Cond.TheVariants.{rolls-And, rolls-Or, rolls-Not, rolls-Compare, rolls-Between, rolls-InList, rolls-Like}
 use Rattle.sql_grammar.specs.declared.tree.Cond.TheVariants as c
 use Rattle.sql_grammar.specs.declared.tree.Expr.{Expr}
-use Rattle.sql_grammar.specs.declared.tree.Op.{Op}
+use Rattle.rpt_base.specs.declared.comparisons.Comparison.{Comparison}
 use Rattle.column_classes.specs.declared.columns.ColumnRef.{ColumnRef}
 use Rattle.script_rules.specs.declared.found.Fault.{Fault}
 use Rattle.script_rules.specs.Scope.{Relation}
@@ -32,7 +32,7 @@ module _ (scope : List Relation) where
   unfolding cond_faults
   cond_faults-Not at inner = ap (cond_faults scope) (sym (rolls-Not at inner)) ∙ fold-roll-Cond (List Fault) (cond_faults_over scope) (Not at inner)
 
-  pub cond_faults-Compare : (at : ℕ) (op : Op) (left right : Expr) → cond_faults scope (c.Compare at op left right) ≡ compare_faults scope at left right
+  pub cond_faults-Compare : (at : ℕ) (op : Comparison) (left right : Expr) → cond_faults scope (c.Compare at op left right) ≡ compare_faults scope at left right
   unfolding cond_faults
   cond_faults-Compare at op left right = ap (cond_faults scope) (sym (rolls-Compare at op left right)) ∙ fold-roll-Cond (List Fault) (cond_faults_over scope) (Compare at op left right)
 
@@ -65,7 +65,7 @@ module _ (scope : List Relation) where
   unfolding columns_in
   columns_in-Not at inner = ap (columns_in scope) (sym (rolls-Not at inner)) ∙ fold-roll-Cond (List ColumnRef) (columns_in_over scope) (Not at inner)
 
-  pub columns_in-Compare : (at : ℕ) (op : Op) (left right : Expr) → columns_in scope (c.Compare at op left right) ≡ columns_of_operands scope (left ∷ right ∷ [])
+  pub columns_in-Compare : (at : ℕ) (op : Comparison) (left right : Expr) → columns_in scope (c.Compare at op left right) ≡ columns_of_operands scope (left ∷ right ∷ [])
   unfolding columns_in
   columns_in-Compare at op left right =
       ap (columns_in scope) (sym (rolls-Compare at op left right)) ∙ fold-roll-Cond (List ColumnRef) (columns_in_over scope) (Compare at op left right)
@@ -98,7 +98,7 @@ pub place_of-Not : (at : ℕ) (inner : Cond) → place_of (c.Not at inner) ≡ a
 unfolding place_of
 place_of-Not at inner = ap place_of (sym (rolls-Not at inner)) ∙ fold-roll-Cond ℕ place_over (Not at inner)
 
-pub place_of-Compare : (at : ℕ) (op : Op) (left right : Expr) → place_of (c.Compare at op left right) ≡ at
+pub place_of-Compare : (at : ℕ) (op : Comparison) (left right : Expr) → place_of (c.Compare at op left right) ≡ at
 unfolding place_of
 place_of-Compare at op left right = ap place_of (sym (rolls-Compare at op left right)) ∙ fold-roll-Cond ℕ place_over (Compare at op left right)
 
@@ -114,11 +114,11 @@ pub place_of-Like : (at : ℕ) (negated : Bool) (operand : Expr) (pattern : List
 unfolding place_of
 place_of-Like at negated operand pattern = ap place_of (sym (rolls-Like at negated operand pattern)) ∙ fold-roll-Cond ℕ place_over (Like at negated operand pattern)
 
-pub is_equality-Compare : (at : ℕ) (op : Op) (left right : Expr) → is_equality (c.Compare at op left right) ≡ is_column_equality op left right
+pub is_equality-Compare : (at : ℕ) (op : Comparison) (left right : Expr) → is_equality (c.Compare at op left right) ≡ is_column_equality op left right
 unfolding is_equality
 is_equality-Compare at op left right = ap is_equality (sym (rolls-Compare at op left right)) ∙ fold-roll-Cond Bool is_equality_over (Compare at op left right)
 
-is_equality-layer : (x : Cond-F Cond) → ((at : ℕ) (op : Op) (left right : Expr) → roll-Cond x ≡ c.Compare at op left right → ⊥) → is_equality (roll-Cond x) ≡ false
+is_equality-layer : (x : Cond-F Cond) → ((at : ℕ) (op : Comparison) (left right : Expr) → roll-Cond x ≡ c.Compare at op left right → ⊥) → is_equality (roll-Cond x) ≡ false
 unfolding is_equality
 is_equality-layer (And members) no_compare = fold-roll-Cond Bool is_equality_over (And members)
 is_equality-layer (Or members) no_compare = fold-roll-Cond Bool is_equality_over (Or members)
@@ -129,10 +129,10 @@ is_equality-layer (InList at negated operand values) no_compare = fold-roll-Cond
 is_equality-layer (Like at negated operand pattern) no_compare = fold-roll-Cond Bool is_equality_over (Like at negated operand pattern)
 
 abbrev EqualsOnlyIfCompare : Cond → Type 0
-EqualsOnlyIfCompare x = ((at : ℕ) (op : Op) (left right : Expr) → x ≡ c.Compare at op left right → ⊥) → is_equality x ≡ false
+EqualsOnlyIfCompare x = ((at : ℕ) (op : Comparison) (left right : Expr) → x ≡ c.Compare at op left right → ⊥) → is_equality x ≡ false
 
 -- what is no comparison is no equality
-pub is_equality-other : (x : Cond) → ((at : ℕ) (op : Op) (left right : Expr) → x ≡ c.Compare at op left right → ⊥) → is_equality x ≡ false
+pub is_equality-other : (x : Cond) → ((at : ℕ) (op : Comparison) (left right : Expr) → x ≡ c.Compare at op left right → ⊥) → is_equality x ≡ false
 is_equality-other = ind-Cond EqualsOnlyIfCompare (λ x y is. is_equality-layer x)
 
 -- how a condition is taken apart

@@ -9,9 +9,9 @@ use Rattle.sql_grammar.specs.declared.tree.Cond.{Cond}
 use Rattle.sql_grammar.specs.declared.tree.Script.{Script}
 use Rattle.sql_grammar.specs.declared.tree.Source.{Source}
 use Rattle.script_rules.specs.declared.found.Fault.{Fault}
-use Rattle.script_rules.specs.Scope.{Relation, scope_of}
-use Rattle.script_rules.specs.Conjuncts.{conjuncts_of, parts_of}
-use Rattle.script_rules.specs.Faults.{cond_faults, conjunct_faults, first_of, join_faults, merged}
+use Rattle.script_rules.specs.Scope.{Relation}
+use Rattle.script_rules.specs.Conjuncts.{conditions_of, parts_of}
+use Rattle.script_rules.specs.Faults.{cond_faults, conjunct_faults, faults_in, first_of, join_faults, merged}
 use Rattle.script_rules.proofs.FaultFacts.{first_of-append, first_of-merged, first_of-none}
 
 pub flat_map-flat_map : {X Y Z : Type 0} (f : Y → List Z) (g : X → List Y) (xs : List X) → flat_map f (flat_map g xs) ≡ flat_map (λ x. flat_map f (g x)) xs
@@ -31,26 +31,22 @@ three-noted a b d t found =
     ∙ ap (λ f. first_of f t) (first_of-append found a (b ++ (d ++ [])) ∙ first_of-append (first_of found a) b (d ++ []) ∙ ap (first_of (first_of (first_of found a) b)) (append-nil d)))
 
 module _ (scope : List Relation) where
-  -- the refusals of the conjuncts of conditions
-  abbrev pub faults_in : List Cond → List Fault
-  faults_in conds = flat_map (conjunct_faults scope) (flat_map parts_of conds)
-
   -- condition by condition
-  pub faults_in-each : (conds : List Cond) → faults_in conds ≡ flat_map (λ x. flat_map (conjunct_faults scope) (parts_of x)) conds
+  pub faults_in-each : (conds : List Cond) → faults_in scope conds ≡ flat_map (λ x. flat_map (conjunct_faults scope) (parts_of x)) conds
   faults_in-each conds = flat_map-flat_map (conjunct_faults scope) parts_of conds
 
-  faults_in-append : (xs ys : List Cond) → faults_in (xs ++ ys) ≡ faults_in xs ++ faults_in ys
+  faults_in-append : (xs ys : List Cond) → faults_in scope (xs ++ ys) ≡ faults_in scope xs ++ faults_in scope ys
   faults_in-append xs ys =
       ap (flat_map (conjunct_faults scope)) (flat_map-append parts_of xs ys) ∙ flat_map-append (conjunct_faults scope) (flat_map parts_of xs) (flat_map parts_of ys)
 
   -- source by source
-  faults_in-sources : (sources : List Source) → faults_in (flat_map (λ (s : Source). option_to_list s.on) sources) ≡ flat_map (λ (s : Source). faults_in (option_to_list s.on)) sources
+  faults_in-sources : (sources : List Source) → faults_in scope (flat_map (λ (s : Source). option_to_list s.on) sources) ≡ flat_map (λ (s : Source). faults_in scope (option_to_list s.on)) sources
   faults_in-sources sources =
       ap (flat_map (conjunct_faults scope)) (flat_map-flat_map parts_of (λ (s : Source). option_to_list s.on) sources)
       ∙ flat_map-flat_map (conjunct_faults scope) (λ (s : Source). flat_map parts_of (option_to_list s.on)) sources
 
   -- a condition that is there
-  pub faults_in-some : (x : Cond) → faults_in (option_to_list (Some x)) ≡ flat_map (conjunct_faults scope) (parts_of x)
+  pub faults_in-some : (x : Cond) → faults_in scope (option_to_list (Some x)) ≡ flat_map (conjunct_faults scope) (parts_of x)
   faults_in-some x = ap (flat_map (conjunct_faults scope)) (append-nil (parts_of x))
 
   -- a conjunct that has a refusal inside, and one that has none
@@ -67,13 +63,12 @@ module _ (scope : List Relation) where
   unfolding conjunct_faults
   conjunct-none x found e = ap (λ faults. first_of found (faults ++ join_faults scope x faults)) (sym (first_of-none (cond_faults scope x) e))
 
--- all conjuncts of a script
-pub faults_in-script : (script : Script) (found : Option Fault)
-    → first_of found (flat_map (conjunct_faults (scope_of script)) (conjuncts_of script))
-    ≡ first_of (first_of found (flat_map (λ (s : Source). faults_in (scope_of script) (option_to_list s.on)) script.select.sources)) (faults_in (scope_of script) (option_to_list script.select.filter))
-faults_in-script script found =
-    let scope = scope_of script in
-    let on = flat_map (λ (s : Source). option_to_list s.on) script.select.sources in
-    let filter = option_to_list script.select.filter in
-    ap (first_of found) (faults_in-append scope on filter) ∙ first_of-append found (faults_in scope on) (faults_in scope filter)
-    ∙ ap (λ faults. first_of (first_of found faults) (faults_in scope filter)) (faults_in-sources scope script.select.sources)
+  -- all conjuncts of a script
+  pub faults_in-script : (script : Script) (found : Option Fault)
+      → first_of found (faults_in scope (conditions_of script))
+      ≡ first_of (first_of found (flat_map (λ (s : Source). faults_in scope (option_to_list s.on)) script.select.sources)) (faults_in scope (option_to_list script.select.filter))
+  faults_in-script script found =
+      let on = flat_map (λ (s : Source). option_to_list s.on) script.select.sources in
+      let filter = option_to_list script.select.filter in
+      ap (first_of found) (faults_in-append on filter) ∙ first_of-append found (faults_in scope on) (faults_in scope filter)
+      ∙ ap (λ faults. first_of (first_of found faults) (faults_in scope filter)) (faults_in-sources script.select.sources)

@@ -4,6 +4,7 @@ use Rattle.std.specs.Prelude.{◌==◌, All, None}
 use Rattle.std.proofs.lemmas.Bool.Decides.{nat_tests}
 use Rattle.std.proofs.lemmas.List.Elements.{All-cons}
 use Rattle.rpt_base.specs.declared.limits.TheConstants.{MAX_COLUMNS, MAX_RELATIONS}
+use Rattle.rpt_base.proofs.ListFacts.{front-empty, back-empty}
 use Rattle.sql_grammar.specs.declared.tree.Script.{Script}
 use Rattle.sql_grammar.specs.declared.tree.CreateTable.{CreateTable}
 use Rattle.sql_grammar.specs.declared.tree.ColumnItem.{ColumnItem}
@@ -14,15 +15,7 @@ use Rattle.script_rules.specs.Scope.{IsWithinLimits}
 use Rattle.script_rules.specs.Faults.{column_faults, each_behind, fault_if, first_of, source_faults, table_faults}
 use Rattle.script_rules.proofs.FaultFacts.{first_of-none}
 
-front-nil : {X : Type 0} (xs ys : List X) → xs ++ ys ≡ [] → xs ≡ []
-front-nil [] ys h = refl
-front-nil (x ∷ xs) ys h = cc
-
-back-nil : {X : Type 0} (xs ys : List X) → xs ++ ys ≡ [] → ys ≡ []
-back-nil [] ys h = h
-back-nil (x ∷ xs) ys h = cc
-
-no_fault : (holds : Bool) (at : ℕ) (kind : BindKind) → fault_if holds at kind ≡ [] → holds ≡ false
+pub no_fault : (holds : Bool) (at : ℕ) (kind : BindKind) → fault_if holds at kind ≡ [] → holds ≡ false
 unfolding fault_if
 no_fault true at kind h = cc
 no_fault false at kind h = refl
@@ -34,10 +27,10 @@ module _ {X : Type 0} (faults : List X → X → List Fault) where
   unfolding each_behind
   few-behind most free before [] le h = omega arith
   few-behind most free before (x ∷ xs) le h =
-      let other = free before x (front-nil (faults before x) (each_behind faults (before ++ x ∷ []) xs) h) in
+      let other = free before x (front-empty (faults before x) (each_behind faults (before ++ x ∷ []) xs) h) in
       let longer = length-append before (x ∷ []) in
       let less : length before + 1 ≤ most = grind (arith, nat_tests) in
-      let rest = few-behind most free (before ++ x ∷ []) xs (omega arith) (back-nil (faults before x) (each_behind faults (before ++ x ∷ []) xs) h) in
+      let rest = few-behind most free (before ++ x ∷ []) xs (omega arith) (back-empty (faults before x) (each_behind faults (before ++ x ∷ []) xs) h) in
       omega arith
 
   -- what holds of each member that is free of refusals
@@ -45,15 +38,15 @@ module _ {X : Type 0} (faults : List X → X → List Fault) where
   unfolding each_behind
   all-behind P free before [] h = λ k d lt. absurd (omega arith)
   all-behind P free before (x ∷ xs) h =
-      All-cons P x xs (free before x (front-nil (faults before x) (each_behind faults (before ++ x ∷ []) xs) h))
-      (all-behind P free (before ++ x ∷ []) xs (back-nil (faults before x) (each_behind faults (before ++ x ∷ []) xs) h))
+      All-cons P x xs (free before x (front-empty (faults before x) (each_behind faults (before ++ x ∷ []) xs) h))
+      (all-behind P free (before ++ x ∷ []) xs (back-empty (faults before x) (each_behind faults (before ++ x ∷ []) xs) h))
 
 column-free : (before : List ColumnItem) (c : ColumnItem) → column_faults before c ≡ [] → (length before == MAX_COLUMNS) ≡ false
 unfolding column_faults
-column-free before c h = no_fault _ _ _ (front-nil _ _ h)
+column-free before c h = no_fault _ _ _ (front-empty _ _ h)
 
 third-nil : {X : Type 0} (a b c : List X) → a ++ (b ++ c) ≡ [] → c ≡ []
-third-nil a b c h = back-nil b c (back-nil a (b ++ c) h)
+third-nil a b c h = back-empty b c (back-empty a (b ++ c) h)
 
 few-columns : (columns : List ColumnItem) → each_behind column_faults [] columns ≡ [] → length columns ≤ MAX_COLUMNS
 few-columns columns h =
@@ -66,7 +59,7 @@ table-free before t h = few-columns t.columns (third-nil _ _ _ h)
 
 source-free : (tables : List CreateTable) (before : List Source) (s : Source) → source_faults tables before s ≡ [] → (length before == MAX_RELATIONS) ≡ false
 unfolding source_faults
-source-free tables before s h = no_fault _ _ _ (back-nil _ _ (back-nil _ _ h))
+source-free tables before s h = no_fault _ _ _ (back-empty _ _ (back-empty _ _ h))
 
 pub within_limits : (script : Script) → first_of None (each_behind table_faults [] script.tables) ≡ None
     → first_of None (each_behind (source_faults script.tables) [] script.select.sources) ≡ None → IsWithinLimits script

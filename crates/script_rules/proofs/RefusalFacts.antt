@@ -1,13 +1,11 @@
 -- The refusal of a script, phase by phase.
-use Rattle.std.proofs.Common.{◌≡◌, ◌∙◌, [], ◌∷◌, ap}
+use Rattle.std.proofs.Common.{◌≡◌, ◌∙◌, [], ap}
 use Rattle.std.specs.Prelude.{IfNone, Option, None, Some}
-use Rattle.std.specs.List.{flat_map}
 use Rattle.std.specs.Option.{option_or}
 use Rattle.sql_grammar.specs.declared.tree.Script.{Script}
 use Rattle.script_rules.specs.declared.found.Fault.{Fault}
 use Rattle.script_rules.specs.Scope.{scope_of}
-use Rattle.script_rules.specs.Conjuncts.{conjuncts_of}
-use Rattle.script_rules.specs.Faults.{conjunct_faults, each_behind, first_by_phase, first_of, item_faults, refusal_of, source_faults, table_faults}
+use Rattle.script_rules.specs.Faults.{each_behind, first_by_phase, first_of, query_phases, refusal_of, source_faults, table_faults}
 
 module _ (script : Script) where
   -- the first refusals of the created tables and of the sources, and what comes behind them
@@ -18,7 +16,7 @@ module _ (script : Script) where
   of_sources = first_of None (each_behind (source_faults script.tables) [] script.select.sources)
 
   abbrev pub of_query : Option Fault
-  of_query = first_by_phase (item_faults (scope_of script) script.select.items ∷ flat_map (conjunct_faults (scope_of script)) (conjuncts_of script) ∷ [])
+  of_query = first_by_phase (query_phases (scope_of script) script)
 
   pub refusal-tables : (f : Fault) → of_tables ≡ Some f → refusal_of script ≡ Some f
   unfolding refusal_of

@@ -6,19 +6,20 @@ use Rattle.sql_grammar.specs.declared.tree.Script.{Script}
 use Rattle.sql_grammar.specs.declared.tree.Source.{Source}
 use Rattle.sql_grammar.specs.declared.tree.Expr.{Expr}
 use Rattle.sql_grammar.specs.declared.tree.Expr.TheVariants as expr
-use Rattle.sql_grammar.specs.declared.tree.Op.{Op}
-use Rattle.sql_grammar.specs.declared.tree.Op.TheVariants as op
+use Rattle.rpt_base.specs.declared.comparisons.Comparison.{Comparison}
+use Rattle.rpt_base.specs.declared.comparisons.Comparison.TheVariants as op
 use Rattle.sql_grammar.specs.declared.tree.Cond.{Cond}
 use Rattle.sql_grammar.specs.declared.tree.Cond.TheOpen.{Cond-F, And, Or, Not, Compare, Between, InList, Like}
 use Rattle.sql_grammar.specs.declared.tree.Cond.TheFolds.{fold-Cond}
 use Rattle.sql_grammar.specs.declared.tree.Cond.TheVariants as cond
 use Rattle.column_classes.specs.declared.columns.ColumnRef.{ColumnRef}
 use Rattle.script_rules.specs.declared.kinds.BindKind.{BindKind}
-use Rattle.script_rules.specs.Scope.{Relation, meaning}
+use Rattle.script_rules.specs.Scope.{Relation, resolve}
 
 -- the conditions of a script: those of the joined sources in order, and then that of WHERE
 abbrev pub conditions_of : Script → List Cond
-conditions_of script = flat_map (λ (s : Source). option_to_list s.on) script.select.sources ++ option_to_list script.select.filter
+conditions_of script =
+    flat_map (λ (s : Source). option_to_list s.on) script.select.sources ++ option_to_list script.select.filter
 
 -- a condition, and what is left where every And is taken apart
 pub record Taken : Type 0 where
@@ -31,7 +32,10 @@ alone c = record { whole = c; parts = c ∷ [] }
 
 -- a condition, given how its members are taken apart
 abbrev pub take_apart_over : Cond-F Taken → Taken
-take_apart_over (And members) = record { whole = cond.And (map (λ (m : Taken). m.whole) members); parts = flat_map (λ (m : Taken). m.parts) members }
+take_apart_over (And members) = record {
+  whole = cond.And (map (λ (m : Taken). m.whole) members);
+  parts = flat_map (λ (m : Taken). m.parts) members;
+}
 take_apart_over (Or members) = alone (cond.Or (map (λ (m : Taken). m.whole) members))
 take_apart_over (Not at inner) = alone (cond.Not at inner.whole)
 take_apart_over (Compare at op left right) = alone (cond.Compare at op left right)
@@ -48,7 +52,7 @@ abbrev pub conjuncts_of : Script → List Cond
 conjuncts_of script = flat_map parts_of (conditions_of script)
 
 -- a comparison by = of two columns
-abbrev pub is_column_equality : Op → Expr → Expr → Bool
+abbrev pub is_column_equality : Comparison → Expr → Expr → Bool
 is_column_equality op.Eq (expr.Column a) (expr.Column b) = true
 is_column_equality _ _ _ = false
 
@@ -80,14 +84,14 @@ place_over (Like at negated operand pattern) = at
 unfoldable pub place_of : Cond → ℕ
 place_of = fold-Cond ℕ place_over
 
--- the column that a reference means, if it means one
+-- the column that was resolved, if one was
 abbrev pub found : Result ColumnRef BindKind → Option ColumnRef
 found (Ok c) = Some c
 found (Err kind) = None
 
 -- the column that an operand is, if it is one
 unfoldable pub column_of : List Relation → Expr → Option ColumnRef
-column_of scope (expr.Column c) = found (meaning scope c)
+column_of scope (expr.Column c) = found (resolve scope c)
 column_of scope (expr.Literal at v) = None
 
 -- the columns of operands in order

@@ -1,7 +1,8 @@
 -- All refusals that hold of a script, and the first of them.
-use Rattle.std.specs.Prelude.{ℕ, ◌==◌, ◌&&◌, ◌||◌, not, nat_lt, Bool, true, false, List, [], ◌∷◌, ◌++◌, length, map, Option, None, Some, Result, Ok, Err, if◌then◌else◌}
+use Rattle.std.specs.Prelude.{ℕ, ◌==◌, ◌&&◌, ◌||◌, not, nat_lt, Bool, true, false, List, [], ◌∷◌, ◌++◌, length, map}
+use Rattle.std.specs.Prelude.{Option, None, Some, Result, Ok, Err, if◌then◌else◌}
 use Rattle.std.specs.List.{flat_map, list_all, list_any}
-use Rattle.std.specs.Option.{option_or}
+use Rattle.std.specs.Option.{option_map_or, option_or}
 use Rattle.std.specs.Char.{is_ascii_alphabetic, is_ascii_digit}
 use Rattle.std.specs.Str.{bytes_eq}
 use Rattle.rpt_base.specs.declared.limits.TheConstants.{MAX_COLUMNS, MAX_RELATIONS}
@@ -26,9 +27,11 @@ use Rattle.sql_grammar.specs.declared.tree.Cond.TheFolds.{fold-Cond}
 use Rattle.column_classes.specs.declared.columns.ColumnRef.{ColumnRef}
 use Rattle.script_rules.specs.declared.found.Fault.{Fault}
 use Rattle.script_rules.specs.declared.kinds.BindKind.{BindKind}
-use Rattle.script_rules.specs.declared.kinds.BindKind.TheVariants.{BadTableName, DuplicateTable, TooManyColumns, DuplicateColumn, UnknownTable, DuplicateAlias, TooManyRelations, UnknownColumn, Ambiguous, TypeMismatch, NotEquiJoin}
-use Rattle.script_rules.specs.Scope.{Relation, meaning, name_of, name_place, scope_of, type_at}
-use Rattle.script_rules.specs.Conjuncts.{columns_in, conjuncts_of, is_equality, of_two_relations, place_of}
+use Rattle.script_rules.specs.declared.kinds.BindKind.TheVariants.{BadTableName, DuplicateTable, TooManyColumns, DuplicateColumn}
+use Rattle.script_rules.specs.declared.kinds.BindKind.TheVariants.{UnknownTable, DuplicateAlias, TooManyRelations}
+use Rattle.script_rules.specs.declared.kinds.BindKind.TheVariants.{UnknownColumn, Ambiguous, TypeMismatch, NotEquiJoin}
+use Rattle.script_rules.specs.Scope.{Relation, resolve, name_of, name_place, scope_of, type_at}
+use Rattle.script_rules.specs.Conjuncts.{columns_in, conditions_of, is_equality, of_two_relations, parts_of, place_of}
 
 -- the order of kinds at one place
 abbrev pub rank_of : BindKind → ℕ
@@ -90,27 +93,30 @@ has_relation sources name = list_any (λ (s : Source). bytes_eq (name_of s) name
 
 -- the refusals of a column behind those before it
 unfoldable pub column_faults : List ColumnItem → ColumnItem → List Fault
-column_faults before c = fault_if (length before == MAX_COLUMNS) c.at TooManyColumns ++ fault_if (has_column before c.name) c.at DuplicateColumn
+column_faults before c =
+    fault_if (length before == MAX_COLUMNS) c.at TooManyColumns ++ fault_if (has_column before c.name) c.at DuplicateColumn
 
 -- the refusals of a created table behind those before it
 unfoldable pub table_faults : List CreateTable → CreateTable → List Fault
 table_faults before t =
-    fault_if (not (is_file_name t.name)) t.at BadTableName ++ (fault_if (has_table before t.name) t.at DuplicateTable ++ each_behind column_faults [] t.columns)
+    fault_if (not (is_file_name t.name)) t.at BadTableName
+    ++ (fault_if (has_table before t.name) t.at DuplicateTable ++ each_behind column_faults [] t.columns)
 
 -- the refusals of a source behind those before it
 unfoldable pub source_faults : List CreateTable → List Source → Source → List Fault
 source_faults tables before s =
-    fault_if (not (has_table tables s.table)) s.at UnknownTable ++ (fault_if (has_relation before (name_of s)) (name_place s) DuplicateAlias
+    fault_if (not (has_table tables s.table)) s.at UnknownTable
+    ++ (fault_if (has_relation before (name_of s)) (name_place s) DuplicateAlias
     ++ fault_if (length before == MAX_RELATIONS) s.at TooManyRelations)
 
--- the refusal of a reference at this place that means this
-abbrev pub meaning_faults : ℕ → Result ColumnRef BindKind → List Fault
-meaning_faults at (Ok column) = []
-meaning_faults at (Err kind) = record { at = at; kind = kind } ∷ []
+-- the refusal of a reference at this place that resolves to this
+abbrev pub resolved_faults : ℕ → Result ColumnRef BindKind → List Fault
+resolved_faults at (Ok column) = []
+resolved_faults at (Err kind) = record { at = at; kind = kind } ∷ []
 
 -- the refusal of a reference to a column
 unfoldable pub reference_faults : List Relation → ColumnName → List Fault
-reference_faults scope c = meaning_faults c.at (meaning scope c)
+reference_faults scope c = resolved_faults c.at (resolve scope c)
 
 -- the refusals of what is selected
 unfoldable pub item_faults : List Relation → Items → List Fault
@@ -122,21 +128,33 @@ unfoldable pub operand_faults : List Relation → Expr → List Fault
 operand_faults scope (expr.Column c) = reference_faults scope c
 operand_faults scope (expr.Literal at v) = []
 
--- the type of the column that is meant; none where none is
-abbrev pub type_meant : List Relation → Result ColumnRef BindKind → Option ColumnType
-type_meant scope (Ok column) = type_at scope column
-type_meant scope (Err kind) = None
+-- the type of the column that was resolved; none where none was
+abbrev pub resolved_type : List Relation → Result ColumnRef BindKind → Option ColumnType
+resolved_type scope (Ok column) = type_at scope column
+resolved_type scope (Err kind) = None
 
 -- the type of an operand; none where it is a column that doesn't resolve
 unfoldable pub type_of : List Relation → Expr → Option ColumnType
 type_of scope (expr.Literal at v) = Some (type_of_value v)
-type_of scope (expr.Column c) = type_meant scope (meaning scope c)
+type_of scope (expr.Column c) = resolved_type scope (resolve scope c)
+
+-- the types of operands in order
+abbrev pub operand_types : List Relation → List Expr → List (Option ColumnType)
+operand_types scope operands = map (type_of scope) operands
+
+-- the types of values, which are known
+abbrev pub value_types : List Value → List (Option ColumnType)
+value_types values = map (λ v. Some (type_of_value v)) values
 
 -- one type
 abbrev pub is_same_type : ColumnType → ColumnType → Bool
 is_same_type type.Int type.Int = true
 is_same_type type.Text type.Text = true
 is_same_type _ _ = false
+
+-- it is known, and is this type
+abbrev pub is_of_type : ColumnType → Option ColumnType → Bool
+is_of_type t other = option_map_or (is_same_type t) other false
 
 -- the types are known, and are not one type
 abbrev pub differ : Option (List ColumnType) → Bool
@@ -154,16 +172,17 @@ operands_faults scope operands = flat_map (operand_faults scope) operands
 
 -- the refusals of a comparison
 unfoldable pub compare_faults : List Relation → ℕ → Expr → Expr → List Fault
-compare_faults scope at left right = operands_faults scope (left ∷ right ∷ []) ++ type_faults at (type_of scope left ∷ type_of scope right ∷ [])
+compare_faults scope at left right =
+    operands_faults scope (left ∷ right ∷ []) ++ type_faults at (operand_types scope (left ∷ right ∷ []))
 
 -- the refusals of a BETWEEN
 unfoldable pub between_faults : List Relation → ℕ → Expr → Expr → Expr → List Fault
 between_faults scope at operand low high =
-    operands_faults scope (operand ∷ low ∷ high ∷ []) ++ type_faults at (type_of scope operand ∷ type_of scope low ∷ type_of scope high ∷ [])
+    operands_faults scope (operand ∷ low ∷ high ∷ []) ++ type_faults at (operand_types scope (operand ∷ low ∷ high ∷ []))
 
 -- the refusals of an IN
 unfoldable pub list_faults : List Relation → ℕ → Expr → List Value → List Fault
-list_faults scope at operand values = operand_faults scope operand ++ type_faults at (type_of scope operand ∷ map (λ v. Some (type_of_value v)) values)
+list_faults scope at operand values = operand_faults scope operand ++ type_faults at (type_of scope operand ∷ value_types values)
 
 -- the refusals of a LIKE
 unfoldable pub like_faults : List Relation → ℕ → Expr → List Fault
@@ -192,14 +211,20 @@ join_faults scope c (f ∷ faults) = []
 unfoldable pub conjunct_faults : List Relation → Cond → List Fault
 conjunct_faults scope c = cond_faults scope c ++ join_faults scope c (cond_faults scope c)
 
--- all refusals that hold of a script, by phase: those of the created tables, the sources, the list of items and the conjuncts
+-- the refusals of the conjuncts of conditions
+abbrev pub faults_in : List Relation → List Cond → List Fault
+faults_in scope conds = flat_map (conjunct_faults scope) (flat_map parts_of conds)
+
+-- the refusals of a script's query by phase: those of the list of items, and of the conjuncts
+abbrev pub query_phases : List Relation → Script → List (List Fault)
+query_phases scope script = item_faults scope script.select.items ∷ faults_in scope (conditions_of script) ∷ []
+
+-- all refusals that hold of a script, by phase: those of the created tables, of the sources, and of the query
 abbrev pub phases_of : Script → List (List Fault)
 phases_of script =
     each_behind table_faults [] script.tables
     ∷ each_behind (source_faults script.tables) [] script.select.sources
-    ∷ item_faults (scope_of script) script.select.items
-    ∷ flat_map (conjunct_faults (scope_of script)) (conjuncts_of script)
-    ∷ []
+    ∷ query_phases (scope_of script) script
 
 -- the first refusal of the first phase that has one
 abbrev pub first_by_phase : List (List Fault) → Option Fault

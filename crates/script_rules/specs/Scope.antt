@@ -1,5 +1,6 @@
--- What the names of a script mean.
-use Rattle.std.specs.Prelude.{ℕ, ◌≤◌, Bool, true, List, [], ◌∷◌, length, map, Option, None, Some, Result, Ok, Err, All, position, slice_get, if◌then◌else◌}
+-- What the names of a script resolve to.
+use Rattle.std.specs.Prelude.{ℕ, ◌≤◌, Bool, true, List, [], ◌∷◌, length, map, Option, None, Some, Result, Ok, Err, All, position}
+use Rattle.std.specs.Prelude.{slice_get, slice_index_or, if◌then◌else◌}
 use Rattle.std.specs.List.{enumerate_from, find, flat_map}
 use Rattle.std.specs.Option.{option_map, option_map_or, option_to_list}
 use Rattle.std.specs.Str.{bytes_eq}
@@ -44,10 +45,14 @@ relation_of tables s = record { name = name_of s; columns = columns_of tables s 
 unfoldable pub scope_of : Script → List Relation
 scope_of script = map (relation_of script.tables) script.select.sources
 
--- a relation may be meant by a reference with this name, or with none
-abbrev pub may_mean : Option (List ℕ) → Relation → Bool
-may_mean None r = true
-may_mean (Some name) r = bytes_eq r.name name
+-- the relation of this number
+abbrev pub relation_at : List Relation → ℕ → Relation
+relation_at scope n = slice_index_or scope n (record { name = []; columns = [] })
+
+-- a relation may be named by a reference with this name, or with none
+abbrev pub may_name : Option (List ℕ) → Relation → Bool
+may_name None r = true
+may_name (Some name) r = bytes_eq r.name name
 
 -- the place of the column of this name, if there is one
 abbrev pub place_of : List ColumnItem → List ℕ → Option ℕ
@@ -57,23 +62,23 @@ place_of columns name = position (λ (c : ColumnItem). bytes_eq c.name name) col
 abbrev pub column_in : List ℕ → ℕ → Relation → Option ColumnRef
 column_in name number r = option_map (λ place. record { relation = number; column = place }) (place_of r.columns name)
 
--- the column that a reference may mean in the relation of this number
-abbrev pub meaning_in : ColumnName → ℕ → Relation → Option ColumnRef
-meaning_in c number r = if may_mean c.relation r then column_in c.column number r else None
+-- the column that a reference may resolve to in the relation of this number
+abbrev pub resolve_in : ColumnName → ℕ → Relation → Option ColumnRef
+resolve_in c number r = if may_name c.relation r then column_in c.column number r else None
 
--- all columns that a reference may mean
-abbrev pub meanings : List Relation → ColumnName → List ColumnRef
-meanings scope c = flat_map (λ (p : ℕ × Relation). option_to_list (meaning_in c p.0 p.1)) (enumerate_from 0 scope)
+-- all columns that a reference may resolve to
+abbrev pub candidates : List Relation → ColumnName → List ColumnRef
+candidates scope c = flat_map (λ (p : ℕ × Relation). option_to_list (resolve_in c p.0 p.1)) (enumerate_from 0 scope)
 
--- the one column that is meant, or the kind of refusal where there is none, or more than one
-abbrev pub only_meaning : List ColumnRef → Result ColumnRef BindKind
-only_meaning [] = Err UnknownColumn
-only_meaning (c ∷ []) = Ok c
-only_meaning (c ∷ d ∷ more) = Err Ambiguous
+-- the one candidate, or the kind of refusal where there is none, or more than one
+abbrev pub only_candidate : List ColumnRef → Result ColumnRef BindKind
+only_candidate [] = Err UnknownColumn
+only_candidate (c ∷ []) = Ok c
+only_candidate (c ∷ d ∷ more) = Err Ambiguous
 
--- what a reference means
-unfoldable pub meaning : List Relation → ColumnName → Result ColumnRef BindKind
-meaning scope c = only_meaning (meanings scope c)
+-- what a reference resolves to
+unfoldable pub resolve : List Relation → ColumnName → Result ColumnRef BindKind
+resolve scope c = only_candidate (candidates scope c)
 
 -- the type of the column at a place, if there is one
 abbrev pub kind_at : List ColumnItem → ℕ → Option ColumnType

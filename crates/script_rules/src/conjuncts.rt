@@ -2,7 +2,8 @@
 ghost use Rattle.std.specs.Prelude.{◌≡◌, map};
 ghost use Rattle.script_rules.specs.Conjuncts.{first_place, is_column_equality, is_equality, place_of};
 
-use sql_text::{Cond, Expr, Op};
+use rpt_base::Comparison;
+use sql_text::{Cond, Expr};
 
 /// Whether a condition is an equality of two columns: a written equality, where it is a conjunct.
 pub fn is_equality(cond: &Cond) -> bool
@@ -19,12 +20,12 @@ pub fn is_equality(cond: &Cond) -> bool
     }
 }
 
-fn is_column_equality(op: Op, left: &Expr, right: &Expr) -> bool
+fn is_column_equality(op: Comparison, left: &Expr, right: &Expr) -> bool
     ensures { result ≡ is_column_equality op left.now right.now }
 {
     matches!(
         (op, left, right),
-        (Op::Eq, Expr::Column(_), Expr::Column(_))
+        (Comparison::Eq, Expr::Column(_), Expr::Column(_))
     )
 }
 

@@ -21,7 +21,7 @@ pub enum BindKind {
     TooManyRelations,
     /// A reference names no column.
     UnknownColumn,
-    /// A reference may mean columns of two relations or more.
+    /// A reference may resolve to columns of two relations or more.
     Ambiguous,
     /// A test's operands are of more than one type, or a LIKE is on a number.
     TypeMismatch,

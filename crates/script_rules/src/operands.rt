@@ -1,31 +1,26 @@
 // What is wrong with references and operands, and of which types they are.
-ghost use Rattle.std.specs.Prelude.{◌≡◌, [], ◌∷◌, map};
+ghost use Rattle.std.specs.Prelude.{◌≡◌, [], ◌∷◌};
 ghost use Rattle.std.specs.List.{flat_map, list_all};
+ghost use Rattle.std.specs.Option.{is_some};
 ghost use Rattle.rpt_base.specs.Lists.{all_of};
-ghost use Rattle.rpt_base.specs.declared.values.ColumnType.TheVariants.{Text};
-ghost use Rattle.script_rules.specs.Scope.{IsWithinLimits, scope_of};
 ghost use Rattle.script_rules.specs.Conjuncts.{column_of};
-ghost use Rattle.script_rules.specs.Faults.{differ, first_of, is_same_type, item_faults, operand_faults, reference_faults, type_faults, type_of};
+ghost use Rattle.script_rules.specs.Faults.{differ, first_of, is_of_type, is_same_type, item_faults};
+ghost use Rattle.script_rules.specs.Faults.{operand_faults, reference_faults, type_faults, type_of, value_types};
 ghost use Rattle.column_table.specs.Table.{type_of_value};
 
 use crate::found::{Fault, note, note_if};
 use crate::kinds::BindKind;
-use crate::scope::{meaning, type_at};
+use crate::scope::Scope;
 use column_classes::ColumnRef;
 use rpt_base::{ColumnType, Value};
-use sql_text::{ColumnName, Expr, Item, Items, Script};
+use sql_text::{ColumnName, Expr, Item, Items};
 
 // The first of what was found and the refusal of a reference.
 #[tactic(auto, unfolding(crate::specs::Faults::first_of, crate::specs::Faults::reference_faults))]
-pub(crate) fn in_reference(
-    script: &Script,
-    name: &ColumnName,
-    found: Option<Fault>,
-) -> Option<Fault>
-    requires limits { IsWithinLimits script.now }
-    ensures { result ≡ first_of found (reference_faults (scope_of script.now) name.now) }
+pub(crate) fn in_reference(scope: &Scope, name: &ColumnName, found: Option<Fault>) -> Option<Fault>
+    ensures { result ≡ first_of found (reference_faults scope.now name.now) }
 {
-    match meaning(script, name) {
+    match scope.resolve(name) {
         Ok(_) => found,
         Err(kind) => note(found, Fault { at: name.at, kind }),
     }
@@ -33,47 +28,43 @@ pub(crate) fn in_reference(
 
 // The first refusal of what is selected.
 #[tactic(auto, unfolding(crate::specs::Faults::first_of, crate::specs::Faults::item_faults))]
-pub(crate) fn in_items(script: &Script) -> Option<Fault>
-    requires limits { IsWithinLimits script.now }
-    ensures { result ≡ first_of None (item_faults (scope_of script.now) script.now.select.items) }
+pub(crate) fn in_items(scope: &Scope, items: &Items) -> Option<Fault>
+    ensures { result ≡ first_of None (item_faults scope.now items.now) }
 {
-    match &script.select.items {
+    match items {
         Items::Star => None,
-        Items::List(items) => in_list(script, items.as_slice()),
+        Items::List(items) => in_list(scope, items.as_slice()),
     }
 }
 
-fn in_list(script: &Script, items: &[Item]) -> Option<Fault>
-    requires limits { IsWithinLimits script.now }
-    ensures { result ≡ first_of None (flat_map (λ i. reference_faults (scope_of script.now) i.column) items.now) }
+fn in_list(scope: &Scope, items: &[Item]) -> Option<Fault>
+    ensures { result ≡ first_of None (flat_map (λ i. reference_faults scope.now i.column) items.now) }
 {
     let mut found = None;
     for item in items {
-        found = in_reference(script, &item.column, found);
+        found = in_reference(scope, &item.column, found);
     }
     found
 }
 
 // The first of what was found and the refusal of an operand.
 #[tactic(auto, unfolding(crate::specs::Faults::first_of, crate::specs::Faults::operand_faults))]
-pub(crate) fn in_operand(script: &Script, operand: &Expr, found: Option<Fault>) -> Option<Fault>
-    requires limits { IsWithinLimits script.now }
-    ensures { result ≡ first_of found (operand_faults (scope_of script.now) operand.now) }
+pub(crate) fn in_operand(scope: &Scope, operand: &Expr, found: Option<Fault>) -> Option<Fault>
+    ensures { result ≡ first_of found (operand_faults scope.now operand.now) }
 {
     match operand {
-        Expr::Column(name) => in_reference(script, name, found),
+        Expr::Column(name) => in_reference(scope, name, found),
         Expr::Literal { at: _, value: _ } => found,
     }
 }
 
 /// The column that an operand is; none where it is a literal, or a reference that doesn't resolve.
 #[tactic(auto, unfolding(crate::specs::Conjuncts::column_of))]
-pub fn column_of(script: &Script, operand: &Expr) -> Option<ColumnRef>
-    requires limits { IsWithinLimits script.now }
-    ensures { result ≡ column_of (scope_of script.now) operand.now }
+pub fn column_of(scope: &Scope, operand: &Expr) -> Option<ColumnRef>
+    ensures { result ≡ column_of scope.now operand.now }
 {
     match operand {
-        Expr::Column(name) => match meaning(script, name) {
+        Expr::Column(name) => match scope.resolve(name) {
             Ok(column) => Some(column),
             Err(_) => None,
         },
@@ -83,13 +74,12 @@ pub fn column_of(script: &Script, operand: &Expr) -> Option<ColumnRef>
 
 // The type of an operand.
 #[tactic(auto, unfolding(crate::specs::Faults::type_of))]
-fn type_of(script: &Script, operand: &Expr) -> Option<ColumnType>
-    requires limits { IsWithinLimits script.now }
-    ensures { result ≡ type_of (scope_of script.now) operand.now }
+pub(crate) fn type_of(scope: &Scope, operand: &Expr) -> Option<ColumnType>
+    ensures { result ≡ type_of scope.now operand.now }
 {
     match operand {
-        Expr::Column(name) => match meaning(script, name) {
-            Ok(column) => type_at(script, column),
+        Expr::Column(name) => match scope.resolve(name) {
+            Ok(column) => scope.type_at(column),
             Err(_) => None,
         },
         Expr::Literal { at: _, value } => Some(type_of_value(value)),
@@ -114,82 +104,68 @@ fn is_same_type(left: ColumnType, right: ColumnType) -> bool
     )
 }
 
-// Whether both types are known, and differ.
-fn differ(left: Option<ColumnType>, right: Option<ColumnType>) -> bool
-    ensures { result ≡ differ (all_of (left ∷ right ∷ [])) }
+// The first of what was found and the refusal of operands that are of more than one type.
+#[tactic(auto, unfolding(crate::specs::Faults::type_faults))]
+pub(crate) fn in_types(at: u32, types: &[Option<ColumnType>], found: Option<Fault>) -> Option<Fault>
+    ensures { result ≡ first_of found (type_faults at types.now) }
 {
-    match (left, right) {
-        (Some(left), Some(right)) => !is_same_type(left, right),
-        _ => false,
+    note_if(found, differ(types), at, BindKind::TypeMismatch)
+}
+
+// Whether all types are known, and are not one type.
+fn differ(types: &[Option<ColumnType>]) -> bool
+    ensures { result ≡ differ (all_of types.now) }
+{
+    match types {
+        [first, others @ ..] => differ_from(*first, others),
+        [] => false,
     }
 }
 
-// The first of what was found and the refusal of a test of two operands.
-#[tactic(auto, unfolding(crate::specs::Faults::type_faults))]
-pub(crate) fn in_two_types(
-    script: &Script,
-    at: u32,
-    left: &Expr,
-    right: &Expr,
-    found: Option<Fault>,
-) -> Option<Fault>
-    requires limits { IsWithinLimits script.now }
-    ensures { result ≡ first_of found (type_faults at (type_of (scope_of script.now) left.now ∷ type_of (scope_of script.now) right.now ∷ [])) }
+// The same of a type and others.
+fn differ_from(first: Option<ColumnType>, others: &[Option<ColumnType>]) -> bool
+    ensures { result ≡ differ (all_of (first ∷ others.now)) }
 {
-    let do_differ = differ(type_of(script, left), type_of(script, right));
-    note_if(found, do_differ, at, BindKind::TypeMismatch)
-}
-
-// The same of three operands.
-#[tactic(auto, unfolding(crate::specs::Faults::type_faults))]
-pub(crate) fn in_three_types(
-    script: &Script,
-    at: u32,
-    operand: &Expr,
-    low: &Expr,
-    high: &Expr,
-    found: Option<Fault>,
-) -> Option<Fault>
-    requires limits { IsWithinLimits script.now }
-    ensures { result ≡ first_of found (type_faults at (type_of (scope_of script.now) operand.now ∷ type_of (scope_of script.now) low.now ∷ type_of (scope_of script.now) high.now ∷ [])) }
-{
-    let do_differ = three_differ(
-        type_of(script, operand),
-        type_of(script, low),
-        type_of(script, high),
-    );
-    note_if(found, do_differ, at, BindKind::TypeMismatch)
-}
-
-// Whether all three types are known, and are not one type.
-fn three_differ(
-    first: Option<ColumnType>,
-    second: Option<ColumnType>,
-    third: Option<ColumnType>,
-) -> bool
-    ensures { result ≡ differ (all_of (first ∷ second ∷ third ∷ [])) }
-{
-    match (first, second, third) {
-        (Some(first), Some(second), Some(third)) => {
-            !is_same_type(first, second) || !is_same_type(first, third)
-        }
-        _ => false,
+    match first {
+        Some(kind) => are_known(others) && !are_of_type(others, kind),
+        None => false,
     }
 }
 
-// The same of an operand and a list of values.
+fn are_known(types: &[Option<ColumnType>]) -> bool
+    ensures { result ≡ list_all is_some types.now }
+{
+    types.iter().all(|other| other.is_some())
+}
+
+// Whether all types are known to be this one.
+fn are_of_type(types: &[Option<ColumnType>], kind: ColumnType) -> bool
+    ensures { result ≡ list_all (is_of_type kind) types.now }
+{
+    types.iter().all(|other| is_of_type(kind, *other))
+}
+
+fn is_of_type(kind: ColumnType, other: Option<ColumnType>) -> bool
+    ensures { result ≡ is_of_type kind other }
+{
+    match other {
+        Some(other) => is_same_type(kind, other),
+        None => false,
+    }
+}
+
+// The first of what was found and the refusal of an operand and values that are of more than one type.
 #[tactic(auto, unfolding(crate::specs::Faults::type_faults))]
 pub(crate) fn in_value_types(
-    script: &Script,
+    scope: &Scope,
     at: u32,
     operand: &Expr,
     values: &[Value],
     found: Option<Fault>,
 ) -> Option<Fault>
-    requires limits { IsWithinLimits script.now }
-    ensures { result ≡ first_of found (type_faults at (type_of (scope_of script.now) operand.now ∷ map (λ v. Some (type_of_value v)) values.now)) }
+    ensures { result ≡ first_of found (type_faults at (type_of scope.now operand.now ∷ value_types values.now)) }
 {
-    let do_differ = match type_of(script, operand) {
+    let do_differ = match type_of(scope, operand) {
         Some(first) => has_other_type(values, first),
         None => false,
     };
@@ -198,7 +174,7 @@ pub(crate) fn in_value_types(
 
 // Whether a value is of another type.
 fn has_other_type(values: &[Value], first: ColumnType) -> bool
-    ensures { result ≡ differ (all_of (Some first ∷ map (λ v. Some (type_of_value v)) values.now)) }
+    ensures { result ≡ differ (all_of (Some first ∷ value_types values.now)) }
 {
     !are_all(values, first)
 }
@@ -210,19 +186,4 @@ fn are_all(values: &[Value], kind: ColumnType) -> bool
     values
         .iter()
         .all(|value| is_same_type(kind, type_of_value(value)))
-}
-
-// The same of an operand of LIKE, which is a text.
-#[tactic(auto, unfolding(crate::specs::Faults::type_faults))]
-pub(crate) fn in_text_type(
-    script: &Script,
-    at: u32,
-    operand: &Expr,
-    found: Option<Fault>,
-) -> Option<Fault>
-    requires limits { IsWithinLimits script.now }
-    ensures { result ≡ first_of found (type_faults at (type_of (scope_of script.now) operand.now ∷ Some Text ∷ [])) }
-{
-    let do_differ = differ(type_of(script, operand), Some(ColumnType::Text));
-    note_if(found, do_differ, at, BindKind::TypeMismatch)
 }

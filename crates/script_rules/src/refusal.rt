@@ -1,13 +1,12 @@
 // The refusal of a script.
-ghost use Rattle.std.specs.Prelude.{◌≡◌, [], ◌∷◌, IfNone};
-ghost use Rattle.std.specs.List.{flat_map};
-ghost use Rattle.script_rules.specs.Scope.{IsWithinLimits, scope_of};
-ghost use Rattle.script_rules.specs.Conjuncts.{conjuncts_of};
-ghost use Rattle.script_rules.specs.Faults.{conjunct_faults, first_by_phase, item_faults, refusal_of};
+ghost use Rattle.std.specs.Prelude.{◌≡◌, IfNone};
+ghost use Rattle.script_rules.specs.Scope.{IsWithinLimits};
+ghost use Rattle.script_rules.specs.Faults.{first_by_phase, query_phases, refusal_of};
 
 use crate::conditions::in_conditions;
 use crate::found::Fault;
 use crate::operands::in_items;
+use crate::scope::Scope;
 use crate::tables::{in_sources, in_tables};
 use sql_text::Script;
 
@@ -25,16 +24,15 @@ pub fn first_fault(script: &Script) -> Option<Fault>
     if let Some(fault) = in_sources(script.tables.as_slice(), script.select.sources.as_slice()) {
         return Some(fault);
     }
-    in_query(script)
+    in_query(&Scope::of(script), script)
 }
 
 // The first refusal of the list of items and the conditions.
-fn in_query(script: &Script) -> Option<Fault>
-    requires limits { IsWithinLimits script.now }
-    ensures { result ≡ first_by_phase (item_faults (scope_of script.now) script.now.select.items ∷ flat_map (conjunct_faults (scope_of script.now)) (conjuncts_of script.now) ∷ []) }
+fn in_query(scope: &Scope, script: &Script) -> Option<Fault>
+    ensures { result ≡ first_by_phase (query_phases scope.now script.now) }
 {
-    match in_items(script) {
+    match in_items(scope, &script.select.items) {
         Some(fault) => Some(fault),
-        None => in_conditions(script),
+        None => in_conditions(scope, script),
     }
 }

@@ -1,105 +1,115 @@
-// The relations of a script, and what a reference means.
-ghost use Rattle.std.specs.Prelude.{◌≡◌, ◌<◌, length, slice_get, IfSome};
-ghost use Rattle.std.specs.Option.{option_copied};
-ghost use Rattle.std.specs.Str.{bytes_eq};
+// The scope of a script, and what a reference resolves to in it.
+ghost use Rattle.std.specs.Prelude.{◌≡◌, ◌<◌, ◌≤◌, length, IfSome};
 ghost use Rattle.rpt_base.specs.declared.limits.TheConstants.{MAX_COLUMNS, MAX_RELATIONS};
-ghost use Rattle.script_rules.specs.Scope.{IsWithinLimits, columns_of, kind_at, meaning, meaning_in, name_of, name_place, place_of, relation_of, scope_of, table_named, type_at};
+ghost use Rattle.script_rules.specs.Scope.{IsWithinLimits, kind_at, place_of, relation_at};
+ghost use Rattle.script_rules.specs.Scope.{resolve, resolve_in, scope_of, type_at};
 
 use crate::kinds::BindKind;
+use crate::sources::{columns_of, is_same, name_of};
 use column_classes::ColumnRef;
 use rpt_base::{ColumnType, Name};
-use sql_text::{ColumnItem, ColumnName, CreateTable, Script, Source};
+use sql_text::{ColumnItem, ColumnName, Script};
+use std::marker::Model;
 
-/// Whether both are one name.
-pub fn is_same(name: &Name, other: &Name) -> bool
-    ensures { result ≡ bytes_eq name.now other.now }
-{
-    name.bytes() == other.bytes()
+/// The scope that names are resolved in, which contracts see as its relations, in the order of FROM.
+///
+/// It is that of a script within the limits: what resolves a name takes a scope, and neither a script nor its limits.
+#[derive(Drop)]
+pub struct Scope<'a> {
+    script: &'a Script,
 }
 
-/// The name that a source goes by: its alias, or else its table's name.
-pub fn name_of(source: &Source) -> &Name
-    ensures { result.now ≡ name_of source.now }
-{
-    match &source.alias {
-        Some(alias) => &alias.name,
-        None => &source.table,
+impl<'a> Model for Scope<'a> {
+    ghost use Rattle.std.specs.Prelude.{List};
+    ghost use Rattle.script_rules.specs.Scope.{IsWithinLimits, Relation, scope_of};
+
+    ghost Value = { List Relation };
+
+    ghost view = { λ s. scope_of s.script.now };
+
+    ghost invariant = { λ s. IsWithinLimits s.script.now };
+}
+
+impl<'a> Scope<'a> {
+    /// The scope of a script.
+    pub fn of(script: &'a Script) -> Scope<'a>
+        requires limits { IsWithinLimits script.now }
+        ensures { result ≡ scope_of script.now }
+    {
+        Scope { script }
     }
-}
 
-// Where that name stands.
-pub(crate) fn name_place(source: &Source) -> u32
-    ensures { result ≡ name_place source.now }
-{
-    match &source.alias {
-        Some(alias) => alias.at,
-        None => source.at,
+    /// The number of relations.
+    pub fn relations(&self) -> u32
+        ensures count { result ≡ length self.now }
+        ensures limit { length self.now ≤ MAX_RELATIONS }
+    {
+        self.script.select.sources.as_slice().len() as u32
     }
-}
 
-// The created table of this name.
-pub(crate) fn table_named<'a>(tables: &'a [CreateTable], name: &Name) -> Option<&'a CreateTable>
-    ensures { option_copied result ≡ table_named tables.now name.now }
-{
-    tables.iter().find(|table| is_same(&table.name, name))
-}
-
-/// The columns of a source's table; none where it isn't created.
-pub fn columns_of<'a>(tables: &'a [CreateTable], source: &Source) -> &'a [ColumnItem]
-    ensures { result.now ≡ columns_of tables.now source.now }
-{
-    match table_named(tables, &source.table) {
-        Some(table) => table.columns.as_slice(),
-        None => &[],
+    /// The name that a relation goes by.
+    fn name(&self, relation: u32) -> &Name
+        requires { relation < length self.now }
+        ensures { result.now ≡ (relation_at self.now relation).name }
+    {
+        name_of(&self.script.select.sources.as_slice()[relation as usize])
     }
-}
 
-/// The column that a reference means; or that it names none, or may name columns of two relations or more.
-pub fn meaning(script: &Script, name: &ColumnName) -> Result<ColumnRef, BindKind>
-    requires limits { IsWithinLimits script.now }
-    ensures { result ≡ meaning (scope_of script.now) name.now }
-{
-    let mut found = None;
-    for (number, source) in script.select.sources.as_slice().iter().enumerate() {
-        if let Some(column) = meaning_in(script, number as u32, source, name) {
-            if found.is_some() {
-                return Err(BindKind::Ambiguous);
+    /// The columns of a relation's table.
+    pub fn columns(&self, relation: u32) -> &[ColumnItem]
+        requires { relation < length self.now }
+        ensures columns { result.now ≡ (relation_at self.now relation).columns }
+        ensures few { length result.now ≤ MAX_COLUMNS }
+    {
+        let source = &self.script.select.sources.as_slice()[relation as usize];
+        columns_of(self.script.tables.as_slice(), source)
+    }
+
+    /// The column that a reference resolves to; or that it names none, or may name columns of two relations or more.
+    pub fn resolve(&self, name: &ColumnName) -> Result<ColumnRef, BindKind>
+        ensures { result ≡ resolve self.now name.now }
+    {
+        let mut found = None;
+        for relation in 0..self.relations() {
+            if let Some(column) = self.resolve_in(relation, name) {
+                if found.is_some() {
+                    return Err(BindKind::Ambiguous);
+                }
+                found = Some(column);
             }
-            found = Some(column);
+        }
+        match found {
+            Some(column) => Ok(column),
+            None => Err(BindKind::UnknownColumn),
         }
     }
-    match found {
-        Some(column) => Ok(column),
-        None => Err(BindKind::UnknownColumn),
-    }
-}
 
-// The column of the source of this number that a reference may mean.
-fn meaning_in(script: &Script, number: u32, source: &Source, name: &ColumnName) -> Option<ColumnRef>
-    requires limits { IsWithinLimits script.now }
-    ensures { result ≡ meaning_in name.now number (relation_of script.now.tables source.now) }
-{
-    if let Some(relation) = &name.relation
-        && !is_same(name_of(source), relation)
+    // The column of a relation that a reference may resolve to.
+    fn resolve_in(&self, relation: u32, name: &ColumnName) -> Option<ColumnRef>
+        requires { relation < length self.now }
+        ensures { result ≡ resolve_in name.now relation (relation_at self.now relation) }
     {
-        return None;
+        if let Some(given) = &name.relation
+            && !is_same(self.name(relation), given)
+        {
+            return None;
+        }
+        let place = index_of(self.columns(relation), &name.column)?;
+        Some(ColumnRef {
+            relation,
+            column: place as u32,
+        })
     }
-    let column = place_of(script, source, &name.column)?;
-    Some(ColumnRef {
-        relation: number,
-        column,
-    })
-}
 
-// The place of a source's column of this name.
-fn place_of(script: &Script, source: &Source, name: &Name) -> Option<u32>
-    requires limits { IsWithinLimits script.now }
-    ensures { result ≡ place_of (columns_of script.now.tables source.now) name.now }
-{
-    let columns = columns_of(script.tables.as_slice(), source);
-    match index_of(columns, name) {
-        Some(place) => Some(place as u32),
-        None => None,
+    // The type of a column.
+    pub(crate) fn type_at(&self, column: ColumnRef) -> Option<ColumnType>
+        ensures { result ≡ type_at self.now column }
+    {
+        if column.relation < self.relations() {
+            kind_at(self.columns(column.relation), column.column)
+        } else {
+            None
+        }
     }
 }
 
@@ -111,23 +121,6 @@ fn index_of(columns: &[ColumnItem], name: &Name) -> Option<usize>
     columns
         .iter()
         .position(|column| is_same(&column.name, name))
-}
-
-// The type of a column.
-pub(crate) fn type_at(script: &Script, column: ColumnRef) -> Option<ColumnType>
-    ensures { result ≡ type_at (scope_of script.now) column }
-{
-    match source_at(script, column.relation) {
-        Some(source) => kind_at(columns_of(script.tables.as_slice(), source), column.column),
-        None => None,
-    }
-}
-
-// The source of this number.
-fn source_at(script: &Script, number: u32) -> Option<&Source>
-    ensures { option_copied result ≡ slice_get script.now.select.sources number }
-{
-    script.select.sources.as_slice().get(number as usize)
 }
 
 // The type of the column at a place.

@@ -1,10 +1,11 @@
 // What is wrong with the created tables and the sources.
-ghost use Rattle.std.specs.Prelude.{◌≡◌, ◌==◌, ◌||◌, [], length};
-ghost use Rattle.script_rules.specs.Faults.{column_faults, each_behind, first_of, has_column, has_relation, has_table, is_file_name, source_faults, table_faults};
+ghost use Rattle.std.specs.Prelude.{◌≡◌, ◌==◌, ◌||◌, []};
+ghost use Rattle.script_rules.specs.Faults.{column_faults, each_behind, first_of, source_faults, table_faults};
+ghost use Rattle.script_rules.specs.Faults.{has_column, has_relation, has_table, is_file_name};
 
 use crate::found::{Fault, note_if};
 use crate::kinds::BindKind;
-use crate::scope::{is_same, name_of, name_place};
+use crate::sources::{is_same, name_of, name_place};
 use rpt_base::Name;
 use rpt_base::limits::{MAX_COLUMNS, MAX_RELATIONS};
 use sql_text::{ColumnItem, CreateTable, Source};

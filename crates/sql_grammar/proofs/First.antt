@@ -3,7 +3,8 @@ use Rattle.std.proofs.Common.{◌≡◌, ℕ, Bool, true, false, List, [], ◌�
 use Rattle.std.specs.Prelude.{◌||◌, ◌&&◌, if◌then◌else◌}
 use Rattle.std.proofs.lemmas.Bool.Decides.{nat_tests}
 use Rattle.sql_lex.specs.declared.tokens.Token.{Token}
-use Rattle.sql_grammar.specs.Kinds.{kind_of, has, code}
+use Rattle.sql_grammar.specs.Kinds.{kind_of, code}
+use Rattle.rpt_base.specs.Lists.{has}
 use Rattle.sql_grammar.specs.Grammar.{Line, rule, Part, Tree, text, Front, front_text, Leaf, None, Both, Left, Right, End, More, In, By, Empty, Whole, Early, Later, LeftOf, RightOf, Item, Beyond, Inside, ByLine}
 use Rattle.sql_grammar.specs.Reading.{Heads, first, nullable, first_line}
 use Rattle.sql_grammar.proofs.Sets.{Heads_left, Heads_right, Heads_subset}
@@ -13,7 +14,7 @@ use Rattle.sql_grammar.proofs.Parts.{first_ok, nullable_ok}
 abbrev pub Begins : Bool → List ℕ → List Token → List Token → Type 0
 Begins can_be_empty kinds ts us = ((can_be_empty ≡ true) × (ts ≡ us)) ⊎ Heads kinds ts
 
-has_one : (a b : ℕ) → a ≡ b → has (b ∷ []) a ≡ true
+has_one : (a b : ℕ) → a ≡ b → has a (b ∷ []) ≡ true
 has_one a b e = grind (arith, nat_tests)
 
 both : (m n : Bool) (F G : List ℕ) (ts us vs : List Token) → Begins m F ts us → Begins n G us vs → Begins (m && n) (F ++ (if m then G else [])) ts vs

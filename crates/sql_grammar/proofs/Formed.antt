@@ -11,14 +11,14 @@ use Rattle.sql_grammar.specs.declared.tree.Cond.TheVariants.{rolls-And, rolls-Or
 use Rattle.sql_grammar.specs.declared.tree.Cond.TheVariants as c
 use Rattle.rpt_base.specs.declared.values.Value.{Value}
 use Rattle.sql_grammar.specs.declared.tree.Expr.{Expr}
-use Rattle.sql_grammar.specs.declared.tree.Op.{Op}
+use Rattle.rpt_base.specs.declared.comparisons.Comparison.{Comparison}
 use Rattle.sql_grammar.specs.Places.{place_of_expr}
 use Rattle.sql_grammar.specs.declared.tree.Script.{Script}
 use Rattle.sql_grammar.specs.declared.tree.Source.{Source}
-use Rattle.sql_grammar.specs.Grammar.{Tree, line, many, opt, word, ◌▸◌, Leaf, Both, Left, Right, End, More, In, By}
+use Rattle.sql_grammar.specs.Grammar.{Tree, line, many, opt, word, ◌▸◌, Both, Left, Right, End, More, In, By}
 use Rattle.sql_grammar.specs.Grammar as g
-use Rattle.sql_grammar.specs.Meaning.{operand_of, op_of, is_there, literal_of, literals_of, text_of, cond_of, conjs_of, conj_of, negs_of, neg_of, prim_of, tests, test_of, joined, join, joins_of, source_of, more_sources_of, filter_of, creates_of, items_of, script_of}
-use Rattle.sql_grammar.specs.Formed.{has_one, has_two, formed_step, is_cond, IsFilter, AreSources, IsFrom, AreItems, AreTables, IsWellFormed}
+use Rattle.sql_grammar.specs.Meaning.{operand_of, op_of, is_there, literal_of, literals_of, text_of, cond_of, conjs_of, conj_of, negs_of, neg_of, prim_of, tests, test_of, joined_conditions, join, joins_of, source_of, more_sources_of, filter_of, creates_of, items_of, script_of}
+use Rattle.sql_grammar.specs.Formed.{has_one, has_two, formed_step, is_cond, IsFilter, AreSources, IsFrom, AreItems, HaveColumns, IsWellFormed}
 use Rattle.sql_grammar.specs.Sentence.{IsSentence}
 
 -- well formed conditions
@@ -31,26 +31,26 @@ and_is members = ap is_cond (sym (rolls-And members)) ∙ fold-roll-Cond Bool fo
 or_is : (members : List Cond) → is_cond (c.Or members) ≡ (has_two (map is_cond members) && are_conds members)
 or_is members = ap is_cond (sym (rolls-Or members)) ∙ fold-roll-Cond Bool formed_step (Or members)
 
-not_is : (at : ℕ) (inner : Cond) → is_cond (c.Not at inner) ≡ is_cond inner
+pub not_is : (at : ℕ) (inner : Cond) → is_cond (c.Not at inner) ≡ is_cond inner
 not_is at inner = ap is_cond (sym (rolls-Not at inner)) ∙ fold-roll-Cond Bool formed_step (Not at inner)
 
-compare_is : (at : ℕ) (op : Op) (left right : Expr) → is_cond (c.Compare at op left right) ≡ true
+compare_is : (at : ℕ) (op : Comparison) (left right : Expr) → is_cond (c.Compare at op left right) ≡ true
 compare_is at op left right = ap is_cond (sym (rolls-Compare at op left right)) ∙ fold-roll-Cond Bool formed_step (Compare at op left right)
 
 between_is : (at : ℕ) (negated : Bool) (operand low high : Expr) → is_cond (c.Between at negated operand low high) ≡ true
 between_is at negated operand low high = ap is_cond (sym (rolls-Between at negated operand low high)) ∙ fold-roll-Cond Bool formed_step (Between at negated operand low high)
 
-list_is : (at : ℕ) (negated : Bool) (operand : Expr) (values : List Value) → is_cond (c.InList at negated operand values) ≡ has_one values
+pub list_is : (at : ℕ) (negated : Bool) (operand : Expr) (values : List Value) → is_cond (c.InList at negated operand values) ≡ has_one values
 list_is at negated operand values = ap is_cond (sym (rolls-InList at negated operand values)) ∙ fold-roll-Cond Bool formed_step (InList at negated operand values)
 
 like_is : (at : ℕ) (negated : Bool) (operand : Expr) (pattern : List ℕ) → is_cond (c.Like at negated operand pattern) ≡ true
 like_is at negated operand pattern = ap is_cond (sym (rolls-Like at negated operand pattern)) ∙ fold-roll-Cond Bool formed_step (Like at negated operand pattern)
 
-all_joined : (x : Cond) (xs : List Cond) → is_cond x ≡ true → are_conds xs ≡ true → is_cond (joined c.And x xs) ≡ true
+all_joined : (x : Cond) (xs : List Cond) → is_cond x ≡ true → are_conds xs ≡ true → is_cond (joined_conditions c.And x xs) ≡ true
 all_joined x [] h k = h
 all_joined x (y ∷ ys) h k = and_is (x ∷ y ∷ ys) ∙ rw (h, k) refl
 
-any_joined : (x : Cond) (xs : List Cond) → is_cond x ≡ true → are_conds xs ≡ true → is_cond (joined c.Or x xs) ≡ true
+any_joined : (x : Cond) (xs : List Cond) → is_cond x ≡ true → are_conds xs ≡ true → is_cond (joined_conditions c.Or x xs) ≡ true
 any_joined x [] h k = h
 any_joined x (y ∷ ys) h k = or_is (x ∷ y ∷ ys) ∙ rw (h, k) refl
 
@@ -113,7 +113,7 @@ items_formed : (d : Tree (line g.items)) → AreItems (items_of d)
 items_formed (By (Left star)) = tt
 items_formed (By (Right (Both first more))) = omega arith
 
-creates_formed : (d : Tree (many (line g.create))) → AreTables (creates_of d)
+creates_formed : (d : Tree (many (line g.create))) → HaveColumns (creates_of d)
 creates_formed End = tt
 creates_formed (More (By (Both keyword (Both table (Both called (Both left (Both first (Both more (Both right semicolon)))))))) more') = (omega arith, creates_formed more')
 

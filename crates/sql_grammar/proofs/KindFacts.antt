@@ -16,7 +16,7 @@ use Rattle.sql_grammar.specs.declared.kinds.Kind.{Kind}
 use Rattle.sql_grammar.specs.declared.kinds.Kind.TheVariants as k
 use Rattle.sql_grammar.specs.Kinds.{kind_of, kind_by, kind_of_word, kind_of_number, among, is_name_in_lower_case, is_word_in_lower_case, is_not_capital}
 use Rattle.sql_grammar.specs.Grammar.{names, magnitudes}
-use Rattle.sql_grammar.specs.Meaning.{written, magnitude}
+use Rattle.sql_grammar.specs.Meaning.{written_text, magnitude}
 
 -- what holds of both holds of the one that is chosen
 choose : (P : Kind → Type 0) (b : Bool) {x y : Kind} → P x → P y → P (if b then x else y)
@@ -37,7 +37,7 @@ word_plain named bytes h =
     and_from (is_name bytes) (list_all is_not_capital bytes) (named bytes both.0) both.1
 
 -- a name's token has a name in lower case
-plain : WordsAreNames → (kind : TokenKind) → among names (kind_by kind) ≡ true → is_name_in_lower_case (written kind) ≡ true
+plain : WordsAreNames → (kind : TokenKind) → among names (kind_by kind) ≡ true → is_name_in_lower_case (written_text kind) ≡ true
 plain named (t.Word word) h = word_plain named word (go (is_word_in_lower_case word) h)
   where
     go : (b : Bool) → among names (if b then kind_of_word word else k.Other) ≡ true → b ≡ true
@@ -64,10 +64,10 @@ plain named (t.Mark m.Le) h = absurd cc
 plain named (t.Mark m.Gt) h = absurd cc
 plain named (t.Mark m.Ge) h = absurd cc
 
-lower_byte : (b : ℕ) → is_not_capital b ≡ true → to_ascii_lowercase b ≡ b
+pub lower_byte : (b : ℕ) → is_not_capital b ≡ true → to_ascii_lowercase b ≡ b
 lower_byte b h = grind (arith, nat_tests)
 
-lower_bytes : (bytes : List ℕ) → list_all is_not_capital bytes ≡ true → str_to_ascii_lowercase bytes ≡ bytes
+pub lower_bytes : (bytes : List ℕ) → list_all is_not_capital bytes ≡ true → str_to_ascii_lowercase bytes ≡ bytes
 lower_bytes [] h = refl
 lower_bytes (b ∷ bytes) h =
     let both = and_parts (is_not_capital b) (list_all is_not_capital bytes) h in
@@ -78,9 +78,9 @@ plain_parts bytes h =
     let both = and_parts (is_name bytes) (list_all is_not_capital bytes) h in
     (both.0, lower_bytes bytes both.1)
 
-pub name_facts : WordsAreNames → (token : Token) → among names (kind_of token) ≡ true → IsTrue (is_name (written token.kind)) × (str_to_ascii_lowercase (written token.kind) ≡ written token.kind)
+pub name_facts : WordsAreNames → (token : Token) → among names (kind_of token) ≡ true → IsTrue (is_name (written_text token.kind)) × (str_to_ascii_lowercase (written_text token.kind) ≡ written_text token.kind)
 unfolding kind_of
-name_facts named token h = plain_parts (written token.kind) (plain named token.kind h)
+name_facts named token h = plain_parts (written_text token.kind) (plain named token.kind h)
 
 -- a number's token has a number of 63 bits, or one more
 abbrev Sized : Kind → ℕ → Type 0

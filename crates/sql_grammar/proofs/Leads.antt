@@ -6,7 +6,8 @@ use Rattle.sql_lex.specs.declared.tokens.Token.{Token}
 use Rattle.sql_grammar.specs.declared.kinds.Kind.{Kind}
 use Rattle.sql_grammar.specs.declared.errors.ParseError.{ParseError}
 use Rattle.sql_grammar.specs.declared.errors.ParseError.TheVariants.{Syntax, TooDeep, Memory}
-use Rattle.sql_grammar.specs.Kinds.{kind_of, code, has, numbers, among}
+use Rattle.sql_grammar.specs.Kinds.{kind_of, code, numbers, among}
+use Rattle.rpt_base.specs.Lists.{has}
 use Rattle.sql_grammar.specs.Grammar.{Line, rule, Part, token, word, ◌▸◌, ◌∣◌, many, level, line, opt, Tree, Leaf, Both, Left, Right, More, In, By, Empty}
 use Rattle.sql_grammar.specs.Reading.{apart, subset, Heads, first, after, nullable, Reads, Stops, Deepens, Parsed, Fails, Gives, Starts}
 use Rattle.sql_grammar.specs.Sentence.{place}
@@ -15,7 +16,7 @@ use Rattle.sql_grammar.proofs.Compose.{NoBegin, reads_token, reads_both, stops_h
 use Rattle.sql_grammar.proofs.Choices.{reads_some, reads_more, stops_left, stops_right, deep_left, deep_right, stops_some, deep_some, stops_item, stops_more, deep_item, deep_more, stops_in, deep_in, reads_in, deep_opens, reads_by, stops_by, deep_by, reads_left, reads_right}
 use Rattle.sql_grammar.proofs.Same.{Same, reads_same, stops_same, deep_same}
 
--- However the one part is read from its tokens, so is the other from its own.
+-- However the among_one part is read from its tokens, so is the other from its own.
 pub record Leads (p : Part) (n : ℕ) (ts : List Token) (q : Part) (m : ℕ) (us : List Token) : Type 0 where
   pub wrap : Tree p → Tree q
   pub reads : (d : Tree p) (rest : List Token) → Reads n ts d rest → Reads m us (wrap d) rest
@@ -93,7 +94,7 @@ at_some l begun = record {
   deep = λ t rest h. l.deep t rest (deep_some begun h);
 }
 
--- a repetition, behind one more member
+-- a repetition, behind among_one more member
 abbrev pub at_more : {p r : Part} {n m : ℕ} {ts us vs : List Token} {d : Tree p} → Leads (many p) n ts r m vs → apart (after p) (first p) ≡ true → Heads (first p) ts → Reads n ts d us → Leads (many p) n us r m vs
 at_more {d = d} l ok begun h = record {
   wrap = λ e. l.wrap (More d e);
@@ -114,7 +115,7 @@ at_same l s ok = record {
 pub level_of : (n : ℕ) {m : ℕ} {ts us : List Token} (t : Token) (Q : ℕ → List Token → Type 0) → us ≡ t ∷ ts → m ≡ n + 1 → Q (n + 1) (t ∷ ts) → Q m us
 level_of n {m} {ts} {us} t Q e levels h = subst (λ (vs : List Token). Q m vs) (sym e) (subst (λ (k : ℕ). Q k (t ∷ ts)) (sym levels) h)
 
--- inside of a level, where the count of levels is one less
+-- inside of a level, where the count of levels is among_one less
 abbrev pub at_level : {kind : Kind} {p r : Part} {n k m : ℕ} {ts us vs : List Token} → Leads (level kind p) m us r k vs → (s : Starts kind us ts) → m ≡ n + 1 → Leads p n ts r k vs
 at_level {kind = kind} {p = p} {n = n} l s levels = record {
   wrap = λ d. l.wrap (In s.token s.is d);
@@ -177,27 +178,27 @@ not_this kind h = record { never_empty = refl; other = h }
 pub shorter : {p : Part} {n : ℕ} {ts us : List Token} {d : Tree p} → Reads n ts d us → length us ≤ length ts
 shorter {ts = ts} r = r.far Empty ts refl
 
-pub one : (kind : Kind) (t : Token) → kind_of t ≡ kind → among (kind ∷ []) (kind_of t) ≡ true
-one kind t is = let e : code (kind_of t) ≡ code kind = ap code is in grind (arith, nat_tests)
+pub among_one : (kind : Kind) (t : Token) → kind_of t ≡ kind → among (kind ∷ []) (kind_of t) ≡ true
+among_one kind t is = let e : code (kind_of t) ≡ code kind = ap code is in grind (arith, nat_tests)
 
 -- a token of a kind
 abbrev pub found : {kind : Kind} {ts rest : List Token} → Starts kind ts rest → Tree (word kind)
-found {kind} h = Leaf {kinds = kind ∷ []} h.token (one kind h.token h.is)
+found {kind} h = Leaf {kinds = kind ∷ []} h.token (among_one kind h.token h.is)
 
 pub reads_kind : {kind : Kind} {n : ℕ} {ts rest : List Token} (h : Starts kind ts rest) → Reads n ts (found h) rest
-reads_kind {kind} {n} {ts} {rest} h = subst (λ (us : List Token). Reads n us (found h) rest) (sym h.splits) (reads_token n h.token rest (one kind h.token h.is))
+reads_kind {kind} {n} {ts} {rest} h = subst (λ (us : List Token). Reads n us (found h) rest) (sym h.splits) (reads_token n h.token rest (among_one kind h.token h.is))
 
 pub begun : {kind : Kind} {ts rest : List Token} → Starts kind ts rest → Heads (code kind ∷ []) ts
-begun {kind} {ts} h = subst (Heads (code kind ∷ [])) (sym h.splits) (one kind h.token h.is)
+begun {kind} {ts} h = subst (Heads (code kind ∷ [])) (sym h.splits) (among_one kind h.token h.is)
 
 -- the tokens begin with another kind
-pub other_kind : (p : Part) {kind : Kind} {ts rest : List Token} → Starts kind ts rest → nullable p ≡ false → has (first p) (code kind) ≡ false → NoBegin p ts
+pub other_kind : (p : Part) {kind : Kind} {ts rest : List Token} → Starts kind ts rest → nullable p ≡ false → has (code kind) (first p) ≡ false → NoBegin p ts
 other_kind p {kind} {ts} s never none = record { never_empty = never; other = λ h. no_heads (subst (Heads (first p)) s.splits h) }
   where
-    no_heads : has (first p) (code (kind_of s.token)) ≡ true → ⊥
-    no_heads h = let g : has (first p) (code kind) ≡ true = subst (λ (k : Kind). has (first p) (code k) ≡ true) s.is h in cc
+    no_heads : has (code (kind_of s.token)) (first p) ≡ true → ⊥
+    no_heads h = let g : has (code kind) (first p) ≡ true = subst (λ (k : Kind). has (code k) (first p) ≡ true) s.is h in cc
 
--- the tokens begin with one of these kinds, with which the part doesn't begin
+-- the tokens begin with among_one of these kinds, with which the part doesn't begin
 pub other_kinds : (p : Part) (kinds : List ℕ) {ts : List Token} → Heads kinds ts → nullable p ≡ false → apart kinds (first p) ≡ true → NoBegin p ts
 other_kinds p kinds {ts} begin never ok = record { never_empty = never; other = λ h. Heads_apart kinds (first p) ts ok begin h }
 

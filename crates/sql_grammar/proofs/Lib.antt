@@ -7,7 +7,7 @@ pub mod Same
 pub mod Leads
 pub mod Loops
 mod Words
-mod KindFacts
+pub mod KindFacts
 mod Placed
 mod Predicates
 mod Cuts

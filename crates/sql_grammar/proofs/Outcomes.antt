@@ -5,8 +5,9 @@ use Rattle.std.proofs.lemmas.Bool.Decides.{nat_tests}
 use Rattle.sql_lex.specs.declared.tokens.Token.{Token}
 use Rattle.sql_grammar.specs.declared.kinds.Kind.{Kind}
 use Rattle.sql_grammar.specs.declared.kinds.Kind.TheVariants as k
-use Rattle.sql_grammar.specs.Kinds.{kind_of, code, has, numbers}
-use Rattle.sql_grammar.specs.Grammar.{Line, rule, Part, token, word, name, ◌▸◌, ◌∣◌, many, level, line, opt, Tree, Leaf, None, Both, Left, Right, End, More, In, By}
+use Rattle.sql_grammar.specs.Kinds.{kind_of, code, numbers}
+use Rattle.rpt_base.specs.Lists.{has}
+use Rattle.sql_grammar.specs.Grammar.{Line, rule, Part, token, word, name, ◌▸◌, ◌∣◌, many, level, line, opt, Tree, Leaf, None, Both, Left, End, In}
 use Rattle.sql_grammar.specs.Grammar as g
 use Rattle.sql_grammar.specs.Meaning.{tests, range, list, predicates}
 use Rattle.sql_grammar.specs.Reading.{apart, subset, Heads, first, after, nullable, Reads, Stops, Deepens}
@@ -36,7 +37,7 @@ moved l (deep t rest h) = deep t rest (l.deep t rest h)
 -- the tokens begin with one of these kinds, or they don't
 begins : (kinds : List ℕ) (ts : List Token) → Heads kinds ts ⊎ (Heads kinds ts → ⊥)
 begins kinds [] = inr (λ h. h)
-begins kinds (t ∷ ts) = elim (cases_Bool (has kinds (code (kind_of t)))) [ inl e ↦ inl e | inr e ↦ inr (λ h. absurd cc) ]
+begins kinds (t ∷ ts) = elim (cases_Bool (has (code (kind_of t)) kinds)) [ inl e ↦ inl e | inr e ↦ inr (λ h. absurd cc) ]
 
 none_here : {p : Part} {n : ℕ} {ts : List Token} → NoBegin p ts → Outcome p n ts
 none_here {n = n} {ts = ts} h = stop ts (stops_here n ts h)
@@ -98,7 +99,7 @@ by_line l one n ts less = moved (at_line l) (one n ts less)
 as_same : {size : ℕ} {p q : Part} → Same p q → subset (after p) (after q) ≡ true → Below size p → Below size q
 as_same {size} {p} {q} s ok one n ts less = moved (at_same (itself q) s ok) (one n ts less)
 
-kind_is : (kind found : Kind) → has (code kind ∷ []) (code found) ≡ true → found ≡ kind
+kind_is : (kind found : Kind) → has (code found) (code kind ∷ []) ≡ true → found ≡ kind
 kind_is kind found h = grind (arith, nat_tests)
 
 -- a level, inside of which are fewer tokens

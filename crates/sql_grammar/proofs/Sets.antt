@@ -1,27 +1,28 @@
 -- Sets of kinds.
-use Rattle.std.proofs.Common.{◌≡◌, ℕ, Bool, true, false, nat_eq, List, [], ◌∷◌, ◌++◌, refl, sym, ap, arith, ◌⊎◌, inl, inr}
+use Rattle.std.proofs.Common.{◌≡◌, ℕ, Bool, true, false, nat_eq, List, [], ◌∷◌, ◌++◌, refl, ap, arith, ◌⊎◌, inl, inr}
 use Rattle.std.specs.Prelude.{◌||◌}
 use Rattle.std.proofs.lemmas.Bool.Decides.{nat_tests}
 use Rattle.sql_lex.specs.declared.tokens.Token.{Token}
-use Rattle.sql_grammar.specs.Kinds.{kind_of, has, code}
+use Rattle.sql_grammar.specs.Kinds.{kind_of, code}
+use Rattle.rpt_base.specs.Lists.{has}
 use Rattle.sql_grammar.specs.Reading.{apart, subset, Heads}
 
-pub has_left : (xs ys : List ℕ) (n : ℕ) → has xs n ≡ true → has (xs ++ ys) n ≡ true
+pub has_left : (xs ys : List ℕ) (n : ℕ) → has n xs ≡ true → has n (xs ++ ys) ≡ true
 has_left [] ys n h = absurd cc
 has_left (x ∷ xs) ys n h = grind (arith, nat_tests, has_left xs ys n)
 
-pub has_right : (xs ys : List ℕ) (n : ℕ) → has ys n ≡ true → has (xs ++ ys) n ≡ true
+pub has_right : (xs ys : List ℕ) (n : ℕ) → has n ys ≡ true → has n (xs ++ ys) ≡ true
 has_right [] ys n h = h
 has_right (x ∷ xs) ys n h = grind (arith, nat_tests, has_right xs ys n h)
 
-same_has : (ys : List ℕ) (x n : ℕ) → nat_eq x n ≡ true → has ys n ≡ has ys x
-same_has ys x n h = let e : x ≡ n = grind (arith, nat_tests) in ap (has ys) (sym e)
+same_has : (ys : List ℕ) (x n : ℕ) → nat_eq n x ≡ true → has n ys ≡ has x ys
+same_has ys x n h = let e : n ≡ x = grind (arith, nat_tests) in ap (λ m. has m ys) e
 
-pub has_apart : (xs ys : List ℕ) (n : ℕ) → apart xs ys ≡ true → has xs n ≡ true → has ys n ≡ true → ⊥
+pub has_apart : (xs ys : List ℕ) (n : ℕ) → apart xs ys ≡ true → has n xs ≡ true → has n ys ≡ true → ⊥
 has_apart [] ys n a h k = absurd cc
 has_apart (x ∷ xs) ys n a h k = grind (arith, nat_tests, has_apart xs ys n, same_has ys x n)
 
-pub has_subset : (xs ys : List ℕ) (n : ℕ) → subset xs ys ≡ true → has xs n ≡ true → has ys n ≡ true
+pub has_subset : (xs ys : List ℕ) (n : ℕ) → subset xs ys ≡ true → has n xs ≡ true → has n ys ≡ true
 has_subset [] ys n a h = absurd cc
 has_subset (x ∷ xs) ys n a h = grind (arith, nat_tests, has_subset xs ys n, same_has ys x n)
 
@@ -41,10 +42,10 @@ pub Heads_subset : (xs ys : List ℕ) (ts : List Token) → subset xs ys ≡ tru
 Heads_subset xs ys [] a h = h
 Heads_subset xs ys (t ∷ ts) a h = has_subset xs ys (code (kind_of t)) a h
 
-either : (x : ℕ) (xs : List ℕ) (n : ℕ) → has (x ∷ xs) n ≡ true → (has (x ∷ []) n ≡ true) ⊎ (has xs n ≡ true)
-either x xs n h = go (nat_eq x n) h
+either : (x : ℕ) (xs : List ℕ) (n : ℕ) → has n (x ∷ xs) ≡ true → (has n (x ∷ []) ≡ true) ⊎ (has n xs ≡ true)
+either x xs n h = go (nat_eq n x) h
   where
-    go : (b : Bool) → (b || has xs n) ≡ true → ((b || false) ≡ true) ⊎ (has xs n ≡ true)
+    go : (b : Bool) → (b || has n xs) ≡ true → ((b || false) ≡ true) ⊎ (has n xs ≡ true)
     go true k = inl refl
     go false k = inr k
 

@@ -1,9 +1,11 @@
 -- Syntax trees that a script can have.
 -- Words of this crate's own contracts.
-use Rattle.std.specs.Prelude.{◌≡◌, ◌≤◌, Bool, true, false, ◌&&◌, List, [], ◌∷◌, length, Option, None, Some, IsTrue}
+use Rattle.std.specs.Prelude.{◌≡◌, ◌≤◌, Bool, true, false, ◌&&◌, List, []}
+use Rattle.std.specs.Prelude.{◌∷◌, length, Option, None, Some, IsTrue}
 use Rattle.std.specs.List.{list_all}
 use Rattle.sql_grammar.specs.declared.tree.Cond.{Cond}
-use Rattle.sql_grammar.specs.declared.tree.Cond.TheOpen.{Cond-F, And, Or, Not, Compare, Between, InList, Like}
+use Rattle.sql_grammar.specs.declared.tree.Cond.TheOpen.{Cond-F, And, Or, Not, Compare}
+use Rattle.sql_grammar.specs.declared.tree.Cond.TheOpen.{Between, InList, Like}
 use Rattle.sql_grammar.specs.declared.tree.Cond.TheFolds.{fold-Cond}
 use Rattle.sql_grammar.specs.declared.tree.CreateTable.{CreateTable}
 use Rattle.sql_grammar.specs.declared.tree.Items.{Items}
@@ -54,13 +56,13 @@ AreItems i.Star = Unit {0}
 AreItems (i.List items) = 1 ≤ length items
 
 -- each table has a column
-abbrev pub AreTables : List CreateTable → Type 0
-AreTables [] = Unit {0}
-AreTables (table ∷ tables) = (1 ≤ length table.columns) × AreTables tables
+abbrev pub HaveColumns : List CreateTable → Type 0
+HaveColumns [] = Unit {0}
+HaveColumns (table ∷ tables) = (1 ≤ length table.columns) × HaveColumns tables
 
 -- A script that is well formed: each list has the members that it must have, and the first source is joined to none.
 pub record IsWellFormed (script : Script) : Type 0 where
-  pub tables : AreTables script.tables
+  pub tables : HaveColumns script.tables
   pub items : AreItems script.select.items
   pub sources : IsFrom script.select.sources
   pub filter : IsFilter script.select.filter

@@ -66,16 +66,22 @@ comparisons = k.Eq ∷ k.Ne ∷ k.Lt ∷ k.Le ∷ k.Gt ∷ k.Ge ∷ []
 abbrev pub magnitudes : List Kind
 magnitudes = k.Number ∷ k.Greatest ∷ []
 
+-- further ones, each behind a comma
+abbrev pub behind_commas : Line → Part
+behind_commas l = many (word k.Comma ▸ line l)
+
 -- What each line says.
 abbrev pub rule : Line → Part
 rule script = many (line create) ▸ line select ▸ opt (word k.Semicolon)
-rule create = word k.Create ▸ word k.Table ▸ name ▸ word k.LeftParen ▸ line column ▸ many (word k.Comma ▸ line column)
+rule create = word k.Create ▸ word k.Table ▸ name ▸ word k.LeftParen ▸ line column ▸ behind_commas column
     ▸ word k.RightParen ▸ word k.Semicolon
 rule column = name ▸ token types
-rule select = word k.Select ▸ line items ▸ word k.From ▸ line source ▸ many (word k.Comma ▸ line source) ▸ opt (word k.Where ▸ line cond)
-rule items = word k.Star ∣ line item ▸ many (word k.Comma ▸ line item)
+rule select = word k.Select ▸ line items ▸ word k.From ▸ line source ▸ behind_commas source
+    ▸ opt (word k.Where ▸ line cond)
+rule items = word k.Star ∣ line item ▸ behind_commas item
 rule item = line colref ▸ opt (opt (word k.As) ▸ name)
-rule source = line factor ▸ many (opt (word k.Inner) ▸ word k.Join ▸ line factor ▸ word k.On ▸ line cond)
+rule source = line factor
+    ▸ many (opt (word k.Inner) ▸ word k.Join ▸ line factor ▸ word k.On ▸ line cond)
 rule factor = name ▸ opt (opt (word k.As) ▸ name)
 rule colref = name ▸ opt (word k.Dot ▸ name)
 rule cond = line conj ▸ many (word k.Or ▸ line conj)
@@ -84,7 +90,8 @@ rule neg = level k.Not (line neg) ∣ line prim
 rule prim = level k.LeftParen (line cond ▸ word k.RightParen)
     ∣ line operand ▸ token comparisons ▸ line operand
     ∣ line operand ▸ opt (word k.Not) ▸ word k.Between ▸ line operand ▸ word k.And ▸ line operand
-    ∣ line operand ▸ opt (word k.Not) ▸ word k.In ▸ word k.LeftParen ▸ line literal ▸ many (word k.Comma ▸ line literal) ▸ word k.RightParen
+    ∣ line operand ▸ opt (word k.Not) ▸ word k.In ▸ word k.LeftParen ▸ line literal ▸ behind_commas literal
+    ▸ word k.RightParen
     ∣ line operand ▸ opt (word k.Not) ▸ word k.Like ▸ word k.Text
 rule operand = line colref ∣ line literal
 rule literal = word k.Number ∣ word k.Minus ▸ token magnitudes ∣ word k.Text

@@ -1,8 +1,10 @@
 -- What the grammar knows of a token.
-use Rattle.std.specs.Prelude.{ℕ, List, [], ◌∷◌, codes, if◌then◌else◌, Bool, false, ◌||◌, ◌&&◌, not, ◌==◌, nat_eq, nat_le}
+use Rattle.std.specs.Prelude.{ℕ, List, [], ◌∷◌, codes, if◌then◌else◌, Bool}
+use Rattle.std.specs.Prelude.{◌||◌, ◌&&◌, not, ◌==◌, nat_le}
 use Rattle.std.specs.List.{list_all, list_any}
 use Rattle.std.specs.Str.{bytes_eq}
 use Rattle.rpt_base.specs.Names.{is_name}
+use Rattle.rpt_base.specs.Lists.{has}
 use Rattle.sql_lex.specs.declared.tokens.Mark.{Mark}
 use Rattle.sql_lex.specs.declared.tokens.Mark.TheVariants as mark
 use Rattle.sql_lex.specs.declared.tokens.Token.{Token}
@@ -26,9 +28,10 @@ is_word_in_lower_case bytes = is_word bytes && list_all is_not_capital bytes
 -- the reserved words that the grammar has no place for
 abbrev pub other_reserved : List (List ℕ)
 other_reserved =
-    codes "asc" ∷ codes "by" ∷ codes "cross" ∷ codes "desc" ∷ codes "distinct" ∷ codes "except" ∷ codes "exists"
-    ∷ codes "fetch" ∷ codes "full" ∷ codes "group" ∷ codes "having" ∷ codes "intersect" ∷ codes "is" ∷ codes "left"
-    ∷ codes "limit" ∷ codes "natural" ∷ codes "null" ∷ codes "offset" ∷ codes "order" ∷ codes "outer" ∷ codes "right"
+    codes "asc" ∷ codes "by" ∷ codes "cross" ∷ codes "desc" ∷ codes "distinct" ∷ codes "except"
+    ∷ codes "exists" ∷ codes "fetch" ∷ codes "full" ∷ codes "group" ∷ codes "having"
+    ∷ codes "intersect" ∷ codes "is" ∷ codes "left" ∷ codes "limit" ∷ codes "natural"
+    ∷ codes "null" ∷ codes "offset" ∷ codes "order" ∷ codes "outer" ∷ codes "right"
     ∷ codes "union" ∷ codes "using" ∷ codes "window" ∷ codes "with" ∷ []
 
 -- a keyword, a reserved word, a type's word or a name
@@ -128,14 +131,10 @@ code k.Gt = 35
 code k.Ge = 36
 code k.Other = 37
 
-abbrev pub has : List ℕ → ℕ → Bool
-has [] n = false
-has (x ∷ xs) n = nat_eq x n || has xs n
-
 abbrev pub numbers : List Kind → List ℕ
 numbers [] = []
 numbers (kind ∷ kinds) = code kind ∷ numbers kinds
 
 -- whether the kind is one of these
 abbrev pub among : List Kind → Kind → Bool
-among kinds kind = has (numbers kinds) (code kind)
+among kinds kind = has (code kind) (numbers kinds)

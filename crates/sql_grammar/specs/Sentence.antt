@@ -1,10 +1,11 @@
 -- Scripts among the lists of tokens, and the places of refusals.
-use Rattle.std.specs.Prelude.{◌≡◌, ℕ, ◌+◌, ◌≤◌, ◌<◌, List, [], ◌∷◌, Result, Ok, Err}
+use Rattle.std.specs.Prelude.{◌≡◌, ◌⊎◌, ℕ, ◌+◌, ◌≤◌, ◌<◌, List, [], ◌∷◌, Result, Ok, Err}
 use Rattle.sql_lex.specs.declared.tokens.Token.{Token}
 use Rattle.sql_grammar.specs.declared.errors.ParseError.{ParseError}
 use Rattle.sql_grammar.specs.declared.errors.ParseError.TheVariants.{Syntax, TooDeep, Memory}
 use Rattle.sql_grammar.specs.declared.tree.Script.{Script}
-use Rattle.sql_grammar.specs.Grammar.{script, line, Tree, text, depth, Front, front_text, front_depth}
+use Rattle.sql_grammar.specs.Grammar.{script, line, Tree, text, depth}
+use Rattle.sql_grammar.specs.Grammar.{Front, front_text, front_depth}
 use Rattle.sql_grammar.specs.Meaning.{script_of}
 
 -- the offset of the first token or, where there is none, the end
@@ -21,7 +22,8 @@ pub record IsSentence (levels : ℕ) (tokens : List Token) (tree : Script) : Typ
 
 -- the tokens before the rest begin a sentence, in at most this many levels
 abbrev pub BeginsWithin : ℕ → List Token → List Token → Type 0
-BeginsWithin levels tokens rest = (f : Front (line script)) × (front_text f rest ≡ tokens) × (front_depth f ≤ levels)
+BeginsWithin levels tokens rest =
+    (f : Front (line script)) × (front_text f rest ≡ tokens) × (front_depth f ≤ levels)
 
 -- no sentence goes on so: by the first token of the rest or, where there is none, by ending
 abbrev pub NoneGoesOn : List Token → List Token → Type 0
@@ -40,7 +42,8 @@ pub record IsTooDeep (levels : ℕ) (tokens : List Token) (at : ℕ) : Type 0 wh
   pub opener : Token
   pub rest : List Token
   pub begins : BeginsWithin levels tokens (opener ∷ rest)
-  pub opens : (f : Front (line script)) × (front_text f rest ≡ tokens) × (front_depth f ≡ levels + 1)
+  pub opens : (f : Front (line script)) × (front_text f rest ≡ tokens)
+      × (front_depth f ≡ levels + 1)
   pub least : (f : Front (line script)) → front_text f rest ≡ tokens → levels < front_depth f
   pub place : at ≡ opener.start
 
@@ -54,3 +57,17 @@ IsReading levels tokens end (Ok tree) = IsSentence levels tokens tree
 IsReading levels tokens end (Err (Syntax at)) = IsSyntaxError levels tokens end at
 IsReading levels tokens end (Err (TooDeep at)) = IsTooDeep levels tokens at
 IsReading levels tokens end (Err Memory) = ⊥
+
+-- the tokens have a reading
+abbrev pub HasReading : ℕ → List Token → ℕ → Type 0
+HasReading levels tokens end = (answer : Answer) × IsReading levels tokens end answer
+
+-- and no second one
+abbrev pub HasOneReading : ℕ → List Token → ℕ → Type 0
+HasOneReading levels tokens end =
+    (a b : Answer) → IsReading levels tokens end a → IsReading levels tokens end b → a ≡ b
+
+-- the reading that the tokens have is this, unless memory fails
+abbrev pub IsOnlyReading : ℕ → List Token → ℕ → Answer → Type 0
+IsOnlyReading levels tokens end result =
+    (said : Answer) → IsReading levels tokens end said → (result ≡ Err Memory) ⊎ (result ≡ said)

@@ -1,21 +1,23 @@
 // Conditions that join and negate no others: comparisons, BETWEEN, IN and LIKE.
-ghost use Rattle.std.specs.Prelude.{◌≡◌, ℕ};
-ghost use Rattle.sql_grammar.specs.Meaning.{literal_list_of, range_of, list_of, predicate_of, test_of, operand_of, text_of, compare, between, in_list, like};
-ghost use Rattle.sql_grammar.specs.Reading.{Gives};
+ghost use Rattle.std.specs.Prelude.{◌≡◌};
+ghost use Rattle.sql_grammar.specs.Meaning.{literal_list_of, range_of, list_of};
+ghost use Rattle.sql_grammar.specs.Meaning.{predicate_of, test_of, operand_of, text_of};
+ghost use Rattle.sql_grammar.specs.Meaning.{compare, between_bounds, in_list, like};
+ghost use Rattle.sql_grammar.specs.Reading.{Parses};
 
 use crate::errors::ParseError;
 use crate::kinds::Kind;
 use crate::leaves::{comparison, literal, text};
 use crate::operands::operand;
 use crate::reading::{after, appended, expect, followed, paired, passes};
-use crate::tree::{Cond, Expr, Op};
-use rpt_base::{Listed, Value};
+use crate::tree::{Cond, Expr};
+use rpt_base::{Comparison, Listed, Value};
 use sql_lex::Token;
 use std::alloc::Global;
 
 // What follows BETWEEN: `operand AND operand`.
 fn range(alloc: Global, tokens: &[Token], end: u32) -> Result<((Expr, Expr), &[Token]), ParseError>
-    ensures { (n : ℕ) → Gives range_of (λ found. found.0) (λ found. found.1.now) n tokens.now end result }
+    ensures { Parses range_of tokens.now end result }
 {
     let (low, rest) = operand(alloc, tokens, end)?;
     let (low, rest) = followed(low, rest, end, Kind::And)?;
@@ -27,7 +29,7 @@ fn literals(
     tokens: &[Token],
     end: u32,
 ) -> Result<(Listed<Value>, &[Token]), ParseError>
-    ensures { (n : ℕ) → Gives literal_list_of (λ found. found.0) (λ found. found.1.now) n tokens.now end result }
+    ensures { Parses literal_list_of tokens.now end result }
 {
     let mut found = Vec::new(alloc);
     let mut rest = tokens;
@@ -43,7 +45,7 @@ fn literals(
 
 // What follows IN: literals in parentheses.
 fn list(alloc: Global, tokens: &[Token], end: u32) -> Result<(Listed<Value>, &[Token]), ParseError>
-    ensures { (n : ℕ) → Gives list_of (λ found. found.0) (λ found. found.1.now) n tokens.now end result }
+    ensures { Parses list_of tokens.now end result }
 {
     let rest = expect(tokens, end, Kind::LeftParen)?;
     let (values, rest) = literals(alloc, rest, end)?;
@@ -53,12 +55,12 @@ fn list(alloc: Global, tokens: &[Token], end: u32) -> Result<(Listed<Value>, &[T
 // What follows a comparison, behind its left side.
 fn compared(
     left: Expr,
-    op: Op,
+    op: Comparison,
     alloc: Global,
     tokens: &[Token],
     end: u32,
 ) -> Result<(Cond, &[Token]), ParseError>
-    ensures { (n : ℕ) → Gives (λ right. compare left op (operand_of right)) (λ found. found.0) (λ found. found.1.now) n tokens.now end result }
+    ensures { Parses (λ right. compare left op (operand_of right)) tokens.now end result }
 {
     let ((left, right), rest) = paired(left, operand(alloc, tokens, end))?;
     Ok((
@@ -80,7 +82,7 @@ fn between(
     tokens: &[Token],
     end: u32,
 ) -> Result<(Cond, &[Token]), ParseError>
-    ensures { (n : ℕ) → Gives (λ bounds. between operand negated (range_of bounds).0 (range_of bounds).1) (λ found. found.0) (λ found. found.1.now) n tokens.now end result }
+    ensures { Parses (between_bounds operand negated) tokens.now end result }
 {
     let ((operand, (low, high)), rest) = paired(operand, range(alloc, tokens, end))?;
     Ok((
@@ -103,7 +105,7 @@ fn in_list(
     tokens: &[Token],
     end: u32,
 ) -> Result<(Cond, &[Token]), ParseError>
-    ensures { (n : ℕ) → Gives (λ values. in_list operand negated (list_of values)) (λ found. found.0) (λ found. found.1.now) n tokens.now end result }
+    ensures { Parses (λ values. in_list operand negated (list_of values)) tokens.now end result }
 {
     let ((operand, values), rest) = paired(operand, list(alloc, tokens, end))?;
     Ok((
@@ -125,7 +127,7 @@ fn like(
     tokens: &[Token],
     end: u32,
 ) -> Result<(Cond, &[Token]), ParseError>
-    ensures { (n : ℕ) → Gives (λ pattern. like operand negated (text_of pattern)) (λ found. found.0) (λ found. found.1.now) n tokens.now end result }
+    ensures { Parses (λ pattern. like operand negated (text_of pattern)) tokens.now end result }
 {
     let ((operand, pattern), rest) = paired(operand, text(alloc, tokens, end))?;
     Ok((
@@ -146,7 +148,7 @@ fn predicate(
     tokens: &[Token],
     end: u32,
 ) -> Result<(Cond, &[Token]), ParseError>
-    ensures { (n : ℕ) → Gives (predicate_of operand) (λ found. found.0) (λ found. found.1.now) n tokens.now end result }
+    ensures { Parses (predicate_of operand) tokens.now end result }
 {
     let (negated, rest) = passes(tokens, Kind::Not);
     if let Some(rest) = after(rest, Kind::Between) {
@@ -162,7 +164,7 @@ fn predicate(
 /// A condition that joins and negates no others, which must stand first, and what follows it. Else `Syntax` is at the first
 /// token with which none goes on or, where there is none, at `end`.
 pub fn test(alloc: Global, tokens: &[Token], end: u32) -> Result<(Cond, &[Token]), ParseError>
-    ensures { (n : ℕ) → Gives test_of (λ found. found.0) (λ found. found.1.now) n tokens.now end result }
+    ensures { Parses test_of tokens.now end result }
 {
     let (left, rest) = operand(alloc, tokens, end)?;
     match comparison(rest) {

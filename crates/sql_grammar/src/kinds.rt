@@ -2,7 +2,10 @@
 ghost use Rattle.std.specs.Prelude.{◌≡◌, map};
 ghost use Rattle.std.specs.List.{list_all};
 ghost use Rattle.std.specs.Str.{bytes_eq};
-ghost use Rattle.sql_grammar.specs.Kinds.{kind_of, kind_of_word as kind_said, kind_of_number as number_said, kind_of_mark as mark_said, is_name_in_lower_case, is_word_in_lower_case, is_not_capital};
+ghost use Rattle.sql_grammar.specs.Kinds.{kind_of, kind_of_word as kind_said};
+ghost use Rattle.sql_grammar.specs.Kinds.{kind_of_number as number_said};
+ghost use Rattle.sql_grammar.specs.Kinds.{kind_of_mark as mark_said, is_name_in_lower_case};
+ghost use Rattle.sql_grammar.specs.Kinds.{is_word_in_lower_case, is_not_capital};
 ghost use Rattle.sql_grammar.specs.Words.{kind_among};
 
 use rpt_base::Name;

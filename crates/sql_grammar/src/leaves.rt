@@ -1,15 +1,19 @@
 // The least parts of a script that mean something: names, types, comparisons, texts and literals.
-ghost use Rattle.std.specs.Prelude.{◌≡◌, ◌≤◌, ◌∷◌, ℕ, pos, neg_ℤ, true, IfOk, IfSome, IfNone, IsTrue, ◌↔◌};
+ghost use Rattle.std.specs.Prelude.{◌≡◌, ◌≤◌, ◌↔◌, pos, neg_ℤ, true};
+ghost use Rattle.std.specs.Prelude.{IfOk, IfSome, IfNone, IsTrue};
 ghost use Rattle.sql_grammar.specs.Kinds.{kind_of as its_kind, numbers, among};
 ghost use Rattle.sql_grammar.specs.Grammar.{names, types, comparisons, magnitudes};
-ghost use Rattle.sql_grammar.specs.Meaning.{written as written_in, magnitude as magnitude_in, named, type_by, type_of as type_said, op_by, op_of as op_said, negative_of, literal_of, text_of as text_said};
-ghost use Rattle.sql_grammar.specs.Reading.{Gives, Parsed, Heads};
+ghost use Rattle.sql_grammar.specs.Meaning.{written_text as written_in};
+ghost use Rattle.sql_grammar.specs.Meaning.{magnitude as magnitude_in, placed_name, type_by};
+ghost use Rattle.sql_grammar.specs.Meaning.{type_of as type_said, op_by, op_of as op_said};
+ghost use Rattle.sql_grammar.specs.Meaning.{negative_of, literal_of, text_of as text_said};
+ghost use Rattle.sql_grammar.specs.Reading.{Parses, IsParsed, IsFirstAmong, Heads};
 
 use crate::errors::ParseError;
 use crate::kinds::{Kind, kind_of};
 use crate::reading::{after, first_is, place_of};
-use crate::tree::{Alias, Op};
-use rpt_base::{ColumnType, Memory, Name, Str, Value};
+use crate::tree::Alias;
+use rpt_base::{ColumnType, Comparison, Memory, Name, Str, Value};
 use sql_lex::{Token, TokenKind, words_are_names};
 use std::alloc::Global;
 
@@ -37,7 +41,7 @@ fn is_name(kind: Kind) -> bool
 
 // A name's token, if one stands first.
 fn first_name(tokens: &[Token]) -> Option<(&Token, &[Token])>
-    ensures some { IfSome result (λ found. (tokens.now ≡ found.0.now ∷ found.1.now) × (among names (its_kind found.0.now) ≡ true)) }
+    ensures some { IfSome result (IsFirstAmong names tokens.now) }
     ensures none { IfNone result (Heads (numbers names) tokens.now → ⊥) }
 {
     let (token, rest) = tokens.split_first()?;
@@ -69,7 +73,7 @@ fn name_of(alloc: Global, token: &Token) -> Result<Name, Memory>
 /// A name with its place, which must stand first, and what follows it; else `Syntax` is at the first token or, where there is
 /// none, at `end`.
 pub fn name(alloc: Global, tokens: &[Token], end: u32) -> Result<(Alias, &[Token]), ParseError>
-    ensures { (n : ℕ) → Gives named (λ found. found.0) (λ found. found.1.now) n tokens.now end result }
+    ensures { Parses placed_name tokens.now end result }
 {
     match first_name(tokens) {
         Some((token, rest)) => {
@@ -108,7 +112,7 @@ fn type_of(kind: Kind) -> ColumnType
 
 // A type's token, if one stands first.
 fn first_type(tokens: &[Token]) -> Option<(&Token, &[Token])>
-    ensures some { IfSome result (λ found. (tokens.now ≡ found.0.now ∷ found.1.now) × (among types (its_kind found.0.now) ≡ true)) }
+    ensures some { IfSome result (IsFirstAmong types tokens.now) }
     ensures none { IfNone result (Heads (numbers types) tokens.now → ⊥) }
 {
     let (token, rest) = tokens.split_first()?;
@@ -121,7 +125,7 @@ fn first_type(tokens: &[Token]) -> Option<(&Token, &[Token])>
 
 /// A type, which must stand first, and what follows it; else `Syntax` as for a name.
 pub fn column_type(tokens: &[Token], end: u32) -> Result<(ColumnType, &[Token]), ParseError>
-    ensures { (n : ℕ) → Gives type_said (λ found. found.0) (λ found. found.1.now) n tokens.now end result }
+    ensures { Parses type_said tokens.now end result }
 {
     match first_type(tokens) {
         Some((token, rest)) => Ok((type_of(kind_of(token)), rest)),
@@ -140,22 +144,22 @@ fn is_comparison(kind: Kind) -> bool
     }
 }
 
-fn op_of(kind: Kind) -> Op
+fn op_of(kind: Kind) -> Comparison
     ensures { result ≡ op_by kind }
 {
     match kind {
-        Kind::Eq => Op::Eq,
-        Kind::Ne => Op::Ne,
-        Kind::Lt => Op::Lt,
-        Kind::Le => Op::Le,
-        Kind::Gt => Op::Gt,
-        _ => Op::Ge,
+        Kind::Eq => Comparison::Eq,
+        Kind::Ne => Comparison::Ne,
+        Kind::Lt => Comparison::Lt,
+        Kind::Le => Comparison::Le,
+        Kind::Gt => Comparison::Gt,
+        _ => Comparison::Ge,
     }
 }
 
 // A comparison's token, if one stands first.
 fn first_comparison(tokens: &[Token]) -> Option<(&Token, &[Token])>
-    ensures some { IfSome result (λ found. (tokens.now ≡ found.0.now ∷ found.1.now) × (among comparisons (its_kind found.0.now) ≡ true)) }
+    ensures some { IfSome result (IsFirstAmong comparisons tokens.now) }
     ensures none { IfNone result (Heads (numbers comparisons) tokens.now → ⊥) }
 {
     let (token, rest) = tokens.split_first()?;
@@ -167,8 +171,8 @@ fn first_comparison(tokens: &[Token]) -> Option<(&Token, &[Token])>
 }
 
 /// How operands are compared, if that stands first, and what follows it.
-pub fn comparison(tokens: &[Token]) -> Option<(Op, &[Token])>
-    ensures some { IfSome result (λ found. (n : ℕ) → Parsed op_said n tokens.now found.0 found.1.now) }
+pub fn comparison(tokens: &[Token]) -> Option<(Comparison, &[Token])>
+    ensures some { IfSome result (IsParsed op_said tokens.now) }
     ensures begins { IfSome result (λ found. Heads (numbers comparisons) tokens.now) }
     ensures none { IfNone result (Heads (numbers comparisons) tokens.now → ⊥) }
 {
@@ -190,7 +194,7 @@ fn text_copy(alloc: Global, token: &Token) -> Result<Str, Memory>
 
 /// A text, which must stand first, and what follows it; else `Syntax` as for a name.
 pub fn text(alloc: Global, tokens: &[Token], end: u32) -> Result<(Str, &[Token]), ParseError>
-    ensures { (n : ℕ) → Gives text_said (λ found. found.0) (λ found. found.1.now) n tokens.now end result }
+    ensures { Parses text_said tokens.now end result }
 {
     match first_is(tokens, Kind::Text) {
         Some((token, rest)) => Ok((text_copy(alloc, token)?, rest)),
@@ -238,7 +242,7 @@ fn is_magnitude(kind: Kind) -> bool
 
 // A number's token, as it may stand behind a minus, if one stands first.
 fn first_magnitude(tokens: &[Token]) -> Option<(&Token, &[Token])>
-    ensures some { IfSome result (λ found. (tokens.now ≡ found.0.now ∷ found.1.now) × (among magnitudes (its_kind found.0.now) ≡ true)) }
+    ensures some { IfSome result (IsFirstAmong magnitudes tokens.now) }
     ensures none { IfNone result (Heads (numbers magnitudes) tokens.now → ⊥) }
 {
     let (token, rest) = tokens.split_first()?;
@@ -251,7 +255,7 @@ fn first_magnitude(tokens: &[Token]) -> Option<(&Token, &[Token])>
 
 // The number behind a minus, as it is with the minus.
 fn behind_minus(tokens: &[Token], end: u32) -> Result<(Value, &[Token]), ParseError>
-    ensures { (n : ℕ) → Gives negative_of (λ found. found.0) (λ found. found.1.now) n tokens.now end result }
+    ensures { Parses negative_of tokens.now end result }
 {
     match first_magnitude(tokens) {
         Some((token, rest)) => Ok((negative(magnitude(token)), rest)),
@@ -264,7 +268,7 @@ fn behind_minus(tokens: &[Token], end: u32) -> Result<(Value, &[Token]), ParseEr
 /// A literal, which must stand first, and what follows it: a number, a minus with a number behind it, or a text. Else `Syntax`
 /// is at the first token with which no literal goes on or, where there is none, at `end`.
 pub fn literal(alloc: Global, tokens: &[Token], end: u32) -> Result<(Value, &[Token]), ParseError>
-    ensures { (n : ℕ) → Gives literal_of (λ found. found.0) (λ found. found.1.now) n tokens.now end result }
+    ensures { Parses literal_of tokens.now end result }
 {
     if let Some((token, rest)) = first_is(tokens, Kind::Number) {
         return Ok((positive(magnitude(token)), rest));

@@ -24,6 +24,7 @@ pub use operands::colref;
 pub use reading::{
     after, appended, begins_with, expect, first_is, followed, paired, passes, place_of,
 };
+pub use rpt_base::Comparison as Op;
 pub use tree::{
-    Alias, ColumnItem, ColumnName, Cond, CreateTable, Expr, Item, Items, Op, Script, Select, Source,
+    Alias, ColumnItem, ColumnName, Cond, CreateTable, Expr, Item, Items, Script, Select, Source,
 };

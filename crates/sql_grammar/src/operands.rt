@@ -1,7 +1,7 @@
 // Columns and operands.
-ghost use Rattle.std.specs.Prelude.{◌≡◌, ℕ};
+ghost use Rattle.std.specs.Prelude.{◌≡◌};
 ghost use Rattle.sql_grammar.specs.Meaning.{colref_of, operand_of};
-ghost use Rattle.sql_grammar.specs.Reading.{Gives};
+ghost use Rattle.sql_grammar.specs.Reading.{Parses};
 
 use crate::errors::ParseError;
 use crate::kinds::Kind;
@@ -18,7 +18,7 @@ pub fn colref(
     tokens: &[Token],
     end: u32,
 ) -> Result<(ColumnName, &[Token]), ParseError>
-    ensures { (n : ℕ) → Gives colref_of (λ found. found.0) (λ found. found.1.now) n tokens.now end result }
+    ensures { Parses colref_of tokens.now end result }
 {
     let (first, rest) = name(alloc, tokens, end)?;
     match after(rest, Kind::Dot) {
@@ -46,7 +46,7 @@ pub fn colref(
 
 /// An operand: a column or a literal.
 pub fn operand(alloc: Global, tokens: &[Token], end: u32) -> Result<(Expr, &[Token]), ParseError>
-    ensures { (n : ℕ) → Gives operand_of (λ found. found.0) (λ found. found.1.now) n tokens.now end result }
+    ensures { Parses operand_of tokens.now end result }
 {
     if begins_name(tokens) {
         let (column, rest) = colref(alloc, tokens, end)?;

@@ -2,11 +2,12 @@
 //
 // What a reader read before it passes to `followed`, `paired` or `appended`, and holds no part of the tree itself where it
 // may return early: each part that it held there would make the model of its body, and so its proof, much larger.
-ghost use Rattle.std.specs.Prelude.{◌≡◌, ◌∷◌, ◌++◌, ◌⊎◌, [], ℕ, IfSome, IfNone, IsTrue, ◌↔◌, MatchResult, Ok, Err};
+ghost use Rattle.std.specs.Prelude.{◌≡◌, ◌∷◌, [], IfSome, IfNone, IsTrue, ◌↔◌};
 ghost use Rattle.sql_grammar.specs.Kinds.{kind_of as its_kind, code};
 ghost use Rattle.sql_grammar.specs.Grammar.{word};
 ghost use Rattle.sql_grammar.specs.Meaning.{is_there};
-ghost use Rattle.sql_grammar.specs.Reading.{Gives, Passes, Parsed, Heads, Starts};
+ghost use Rattle.sql_grammar.specs.Reading.{Parses, Passes, IsParsed, IsPaired, IsAppended};
+ghost use Rattle.sql_grammar.specs.Reading.{IsFirst, Heads, Starts};
 ghost use Rattle.sql_grammar.specs.Sentence.{place};
 
 use crate::errors::ParseError;
@@ -31,7 +32,7 @@ fn is_kind(token: &Token, kind: Kind) -> bool
 
 /// The first token, if it is of this kind, and what follows it.
 pub fn first_is(tokens: &[Token], kind: Kind) -> Option<(&Token, &[Token])>
-    ensures some { IfSome result (λ found. (tokens.now ≡ found.0.now ∷ found.1.now) × (its_kind found.0.now ≡ kind)) }
+    ensures some { IfSome result (IsFirst kind tokens.now) }
     ensures none { IfNone result (Heads (code kind ∷ []) tokens.now → ⊥) }
 {
     let (token, rest) = tokens.split_first()?;
@@ -64,7 +65,7 @@ pub fn begins_with(tokens: &[Token], kind: Kind) -> bool
 /// What follows a token of this kind, which must stand first; else `Syntax` is at the first token or, where there is none, at
 /// `end`.
 pub fn expect(tokens: &[Token], end: u32, kind: Kind) -> Result<&[Token], ParseError>
-    ensures { (n : ℕ) → Passes (word kind) (λ rest. rest.now) n tokens.now end result }
+    ensures { Passes (word kind) tokens.now end result }
 {
     match after(tokens, kind) {
         Some(rest) => Ok(rest),
@@ -81,7 +82,7 @@ pub fn followed<T: Drop>(
     end: u32,
     kind: Kind,
 ) -> Result<(T, &[Token]), ParseError>
-    ensures { (n : ℕ) → Gives {p = word kind} (λ _. found) (λ it. it.0) (λ it. it.1.now) n tokens.now end result }
+    ensures { Parses {p = word kind} (λ _. found) tokens.now end result }
 {
     let rest = expect(tokens, end, kind)?;
     Ok((found, rest))
@@ -92,7 +93,7 @@ pub fn paired<T: Drop, U: Drop>(
     found: T,
     next: Result<(U, &[Token]), ParseError>,
 ) -> Result<((T, U), &[Token]), ParseError>
-    ensures { MatchResult result (λ both. (next.entry ≡ Ok (both.0.1, both.1)) × (both.0.0 ≡ found)) (λ error. next.entry ≡ Err error) }
+    ensures { IsPaired found next.entry result }
 {
     let (next, rest) = next?;
     Ok(((found, next), rest))
@@ -104,7 +105,7 @@ pub fn appended<T: Drop>(
     mut found: Vec<T>,
     next: Result<(T, &[Token]), ParseError>,
 ) -> Result<(Vec<T>, &[Token]), ParseError>
-    ensures { MatchResult result (λ all. (one : T) × (next.entry ≡ Ok (one, all.1)) × (all.0.items ≡ found.items ++ one ∷ [])) (λ error. (next.entry ≡ Err error) ⊎ (error ≡ ParseError.Memory)) }
+    ensures { IsAppended found.items next.entry result }
 {
     let (next, rest) = next?;
     found.push(next)?;
@@ -113,7 +114,7 @@ pub fn appended<T: Drop>(
 
 /// Whether a token of this kind stands first, and what follows it; all the tokens, if none does.
 pub fn passes(tokens: &[Token], kind: Kind) -> (bool, &[Token])
-    ensures { (n : ℕ) → Parsed (is_there {p = word kind}) n tokens.now result.0 result.1.now }
+    ensures { IsParsed (is_there {p = word kind}) tokens.now result }
 {
     match after(tokens, kind) {
         Some(rest) => (true, rest),

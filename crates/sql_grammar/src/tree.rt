@@ -2,7 +2,7 @@
 ghost use Rattle.std.specs.Prelude.{◌≡◌};
 ghost use Rattle.sql_grammar.specs.Places.{place_of_expr};
 
-use rpt_base::{ColumnType, Listed, Name, Str, Value};
+use rpt_base::{ColumnType, Comparison, Listed, Name, Str, Value};
 use sqlite_items::{Boxed, Items as Members};
 
 /// A script: the tables that it declares, and what it selects.
@@ -84,17 +84,6 @@ pub enum Expr {
     Literal { at: u32, value: Value },
 }
 
-/// How two operands are compared.
-#[derive(Clone, Copy, Debug, PartialEq, Eq)]
-pub enum Op {
-    Eq,
-    Ne,
-    Lt,
-    Le,
-    Gt,
-    Ge,
-}
-
 /// A condition. No place is that of a parenthesis.
 #[derive(Drop)]
 pub enum Cond {
@@ -108,7 +97,7 @@ pub enum Cond {
     },
     Compare {
         at: u32,
-        op: Op,
+        op: Comparison,
         left: Expr,
         right: Expr,
     },

@@ -2,8 +2,8 @@
 use Rattle.std.proofs.Common.{◌≡◌, refl, ℕ, List, length, inl, inr}
 use Rattle.std.specs.Prelude.{◌⊎◌, Result, Ok, Err, IfOk, IsErrOf, MatchResult}
 use Rattle.sql_lex.specs.declared.tokens.Token.{Token}
-use Rattle.sql_lex.specs.declared.tokens.LexError.{LexError}
-use Rattle.sql_lex.specs.declared.tokens.LexError.TheVariants as error
+use Rattle.sql_lex.specs.declared.errors.LexError.{LexError}
+use Rattle.sql_lex.specs.declared.errors.LexError.TheVariants as error
 use Rattle.sql_lex.specs.Tokens.{IsTokenList, IsBadAt, AreTokens}
 use Rattle.sql_lex.specs.Lexing.{lexed, Gives}
 use Rattle.sql_lex.proofs.TokenLaws.{listed, is_listed, refused, is_refused}

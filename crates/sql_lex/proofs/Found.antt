@@ -12,8 +12,8 @@ use Rattle.std.proofs.lemmas.Str.{IsUtf8-from_is_utf8}
 use Rattle.rpt_base.specs.Names.{is_name}
 use Rattle.sql_lex.specs.declared.tokens.TokenKind.{TokenKind}
 use Rattle.sql_lex.specs.declared.tokens.TokenKind.TheVariants as kind
-use Rattle.sql_lex.specs.Tokens.{is_blank, is_word_byte, starts, is_word, is_digits, doubled, mark_of, Spells, Ends, IsItem}
-use Rattle.sql_lex.specs.Lexing.{before, number_of, run_token, sized, run_at, text_of, text_token, quoted_token, mark_or, mark_token, token_at, as_item, item_at}
+use Rattle.sql_lex.specs.Tokens.{is_blank, is_word_byte, starts, is_word, is_digits, doubled_quotes, mark_of, Spells, Ends, IsItem}
+use Rattle.sql_lex.specs.Lexing.{before, number_of, run_token, sized_token, run_at, text_of, text_token, quoted_token, mark_or, mark_token, token_at, as_item, item_at}
 use Rattle.sql_lex.proofs.BytesRuns.{run_split, run_stops, run_some, run_all, cond_cases, map_parts}
 use Rattle.sql_lex.proofs.Texts.{text-is, text_of-within}
 use Rattle.sql_lex.proofs.Marks.{mark_or_parts}
@@ -86,14 +86,14 @@ text_token-is b bytes (Some (text, n)) t size q e h =
     let p = cond_some (is_utf8 text) (kind.Text text, 1 + n) (t, size) h in
     let same = some_pair_parts (kind.Text text) t (1 + n) size (ap Some p.1) in
     let read = text-is false bytes text n e in
-    let split : b ∷ bytes ≡ (39 ∷ (doubled text ++ 39 ∷ [])) ++ drop (suc n) (b ∷ bytes) =
-    rw (eqb-true b 39 q) (ap (λ (r : List ℕ). 39 ∷ r) (read.0 ∙ sym (append_assoc (doubled text) (39 ∷ []) (drop n bytes)))) in
+    let split : b ∷ bytes ≡ (39 ∷ (doubled_quotes text ++ 39 ∷ [])) ++ drop (suc n) (b ∷ bytes) =
+    rw (eqb-true b 39 q) (ap (λ (r : List ℕ). 39 ∷ r) (read.0 ∙ sym (append_assoc (doubled_quotes text) (39 ∷ []) (drop n bytes)))) in
     let fits = text_of-within false bytes text n e in
     let within : suc n ≤ length (b ∷ bytes) = omega arith in
     let more : suc n ≡ 1 + n = omega arith in
     let some : 1 ≤ suc n = omega arith in
     found_put (b ∷ bytes) (kind.Text text) t (suc n) size same.0 (more ∙ same.1)
-    (39 ∷ (doubled text ++ 39 ∷ []), split, (IsUtf8-from_is_utf8 text p.0, refl), read.1, some, spelling_size (b ∷ bytes) (39 ∷ (doubled text ++ 39 ∷ [])) (suc n) split within)
+    (39 ∷ (doubled_quotes text ++ 39 ∷ []), split, (IsUtf8-from_is_utf8 text p.0, refl), read.1, some, spelling_size (b ∷ bytes) (39 ∷ (doubled_quotes text ++ 39 ∷ [])) (suc n) split within)
 
 -- the first byte, where it passes a test for one byte
 starts_with_byte : (byte : ℕ) (bytes : List ℕ) → starts (λ b. b == byte) bytes ≡ true → (more : List ℕ) × (bytes ≡ byte ∷ more)
@@ -124,7 +124,7 @@ quoted-is b bytes t size q h =
     (spelling, whole ∙ ap (λ (r : List ℕ). spelling ++ r) (sym rest), (inner, refl, both.1, refl), tt, some, long)
 
 -- what a run with a token is
-sized_parts : (run : List ℕ) (o : Option TokenKind) (t : TokenKind) (size : ℕ) → sized run o ≡ Some (t, size) → (o ≡ Some t) × (length run ≡ size)
+sized_parts : (run : List ℕ) (o : Option TokenKind) (t : TokenKind) (size : ℕ) → sized_token run o ≡ Some (t, size) → (o ≡ Some t) × (length run ≡ size)
 sized_parts run None t size h = absurd (none-some (t, size) h)
 sized_parts run (Some s) t size h = let same = some_pair_parts s t (length run) size h in (ap Some same.0, same.1)
 

@@ -1,9 +1,9 @@
 mod Answered
-mod BytesRuns
+pub mod BytesRuns
 mod Found
 mod LowerCase
 mod Marks
-mod Standing
+pub mod Standing
 mod Steps
 mod Texts
 mod TokenLaws

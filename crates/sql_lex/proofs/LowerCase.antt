@@ -9,13 +9,8 @@ use Rattle.std.proofs.lemmas.Bool.{false≢true, cases_Bool, cases_lt, and_parts
 use Rattle.std.proofs.lemmas.Bool.Decides.{nat_tests}
 use Rattle.std.proofs.lemmas.List.{length-map, map-append}
 use Rattle.std.proofs.lemmas.Str.{encode_ascii}
-use Rattle.std.proofs.lemmas.Str.Ascii.{lowercase_ascii, lowercase_is, lowercase-lowercase}
+use Rattle.std.proofs.lemmas.Str.Ascii.{lowercase_ascii, lowercase_is}
 use Rattle.sql_lex.specs.Tokens.{begins_word, is_word_byte, is_word}
-
--- lower case is in lower case
-pub lower-lower : (bytes : List ℕ) → str_to_ascii_lowercase (str_to_ascii_lowercase bytes) ≡ str_to_ascii_lowercase bytes
-lower-lower [] = refl
-lower-lower (b ∷ bytes) = rw (lowercase-lowercase b, lower-lower bytes) refl
 
 -- a byte that may stand in a word may do so in lower case
 begins-lower : (b : ℕ) → begins_word b ≡ true → begins_word (to_ascii_lowercase b) ≡ true

@@ -15,7 +15,7 @@ use Rattle.sql_lex.specs.declared.tokens.Mark.{Mark}
 use Rattle.sql_lex.specs.declared.tokens.Mark.TheVariants.{LeftParen, RightParen, Comma, Semicolon, Dot, Star, Minus, Eq, Ne, Lt, Le, Gt, Ge}
 use Rattle.sql_lex.specs.declared.tokens.TokenKind.{TokenKind}
 use Rattle.sql_lex.specs.declared.tokens.TokenKind.TheVariants as kind
-use Rattle.sql_lex.specs.Tokens.{is_blank, begins_word, is_word_byte, starts, is_word, is_digits, doubled, mark_of, Spells, Ends, IsWhite, IsComment, IsItem}
+use Rattle.sql_lex.specs.Tokens.{is_blank, begins_word, is_word_byte, starts, is_word, is_digits, doubled_quotes, mark_of, Spells, Ends, IsWhite, IsComment, IsItem}
 use Rattle.sql_lex.specs.Lexing.{before, number_of, run_token, run_at, quoted_token, mark_token, token_at, item_at}
 use Rattle.sql_lex.proofs.BytesRuns.{run_whole}
 use Rattle.sql_lex.proofs.Texts.{text-at}
@@ -42,18 +42,18 @@ unfolding item_at
 plain_at b bytes t size full plain h = rw (full, plain, h) refl
 
 -- digits begin no word
-digit_begins : (b : ℕ) → is_ascii_digit b ≡ true → begins_word b ≡ false
+pub digit_begins : (b : ℕ) → is_ascii_digit b ≡ true → begins_word b ≡ false
 digit_begins b h = grind (arith, nat_tests)
 
 -- digits are word bytes
-digits_are_word_bytes : (bytes : List ℕ) → list_all is_ascii_digit bytes ≡ true → list_all is_word_byte bytes ≡ true
+pub digits_are_word_bytes : (bytes : List ℕ) → list_all is_ascii_digit bytes ≡ true → list_all is_word_byte bytes ≡ true
 digits_are_word_bytes [] h = refl
 digits_are_word_bytes (b ∷ bytes) h =
     let both = and_parts (is_ascii_digit b) (list_all is_ascii_digit bytes) h in
     and_from (is_word_byte b) (list_all is_word_byte bytes) (or_right (begins_word b) (is_ascii_digit b) both.0) (digits_are_word_bytes bytes both.1)
 
 -- a word byte is no white space and no minus
-word_byte_not_blank : (b : ℕ) → is_word_byte b ≡ true → is_blank b ≡ false
+pub word_byte_not_blank : (b : ℕ) → is_word_byte b ≡ true → is_blank b ≡ false
 word_byte_not_blank b h = grind (arith, nat_tests)
 
 word_byte_not_minus : (b : ℕ) → is_word_byte b ≡ true → (45 == b) ≡ false
@@ -97,33 +97,33 @@ number_reached (b ∷ more) rest n h end =
     run_reached b more rest (kind.Number n) (digits_are_word_bytes (b ∷ more) digits.1) end (number_run b more n h)
 
 -- a text token is read behind its first quote
-text_token-at : (text rest : List ℕ) → IsUtf8 text → starts (λ b. b == 39) rest ≡ false → token_at (39 ∷ (doubled text ++ 39 ∷ rest)) ≡ Some (kind.Text text, length (39 ∷ (doubled text ++ 39 ∷ [])))
+text_token-at : (text rest : List ℕ) → IsUtf8 text → starts (λ b. b == 39) rest ≡ false → token_at (39 ∷ (doubled_quotes text ++ 39 ∷ rest)) ≡ Some (kind.Text text, length (39 ∷ (doubled_quotes text ++ 39 ∷ [])))
 unfolding token_at
 text_token-at text rest valid end =
     let utf8 : is_utf8 text ≡ true = is_utf8-from_IsUtf8 text valid in
-    let size : 1 + (length (doubled text) + 1) ≡ suc (length (doubled text ++ 39 ∷ [])) = omega (arith, length-append (doubled text) (39 ∷ [])) in
+    let size : 1 + (length (doubled_quotes text) + 1) ≡ suc (length (doubled_quotes text ++ 39 ∷ [])) = omega (arith, length-append (doubled_quotes text) (39 ∷ [])) in
     rw (text-at text rest end, utf8, size) refl
 
 -- a text that stands there is read
 text_reached : (spelling rest : List ℕ) (text : List ℕ) → Spells spelling (kind.Text text) → Ends (kind.Text text) rest → IsReached spelling (Some (kind.Text text)) rest
 text_reached spelling rest text h end =
     let P : List ℕ → Type 0 = λ s. IsReached s (Some (kind.Text text)) rest in
-    let inner = doubled text ++ 39 ∷ [] in
-    let at : token_at (39 ∷ (inner ++ rest)) ≡ Some (kind.Text text, length (39 ∷ inner)) = rw (append_assoc (doubled text) (39 ∷ []) rest) (text_token-at text rest h.0 end) in
+    let inner = doubled_quotes text ++ 39 ∷ [] in
+    let at : token_at (39 ∷ (inner ++ rest)) ≡ Some (kind.Text text, length (39 ∷ inner)) = rw (append_assoc (doubled_quotes text) (39 ∷ []) rest) (text_token-at text rest h.0 end) in
     subst P (sym h.1) (reached (39 ∷ inner) (Some (kind.Text text)) rest (plain_at 39 (inner ++ rest) (kind.Text text) (length (39 ∷ inner)) refl refl at))
 
 -- a name's byte is no quote
 name_byte_no_quote : (b : ℕ) → is_name_byte b ≡ true → not (b == 34) ≡ true
 name_byte_no_quote b h = grind (arith, nat_tests)
 
-no_quotes : (bytes : List ℕ) → list_all is_name_byte bytes ≡ true → list_all (λ b. not (b == 34)) bytes ≡ true
+pub no_quotes : (bytes : List ℕ) → list_all is_name_byte bytes ≡ true → list_all (λ b. not (b == 34)) bytes ≡ true
 no_quotes [] h = refl
 no_quotes (b ∷ bytes) h =
     let both = and_parts (is_name_byte b) (list_all is_name_byte bytes) h in
     and_from (not (b == 34)) (list_all (λ b. not (b == 34)) bytes) (name_byte_no_quote b both.0) (no_quotes bytes both.1)
 
 -- the bytes of a name
-name_bytes : (bytes : List ℕ) → IsTrue (is_name bytes) → list_all is_name_byte bytes ≡ true
+pub name_bytes : (bytes : List ℕ) → IsTrue (is_name bytes) → list_all is_name_byte bytes ≡ true
 name_bytes bytes h =
     let all = and_parts (nat_le 1 (length bytes)) (nat_le (length bytes) 63 && (list_all is_name_byte bytes && is_utf8 bytes)) h in
     let rest = and_parts (nat_le (length bytes) 63) (list_all is_name_byte bytes && is_utf8 bytes) all.1 in

@@ -1,5 +1,5 @@
 -- How far the lexer's loops have come: one byte more, or one item more.
-use Rattle.std.proofs.Common.{◌≡◌, ◌≢◌, ◌∙◌, ap, sym, subst, refl, ℕ, suc, zero, ◌<◌, ◌≤◌, ◌+◌, ◌-◌, ◌*◌, List, [], ◌∷◌, ◌++◌, length, take, drop, get_or, Bool, true, false, cond, arith, rules, inl, inr}
+use Rattle.std.proofs.Common.{◌≡◌, ◌≢◌, ◌∙◌, ap, sym, refl, ℕ, suc, zero, ◌<◌, ◌≤◌, ◌+◌, ◌-◌, ◌*◌, List, [], ◌∷◌, ◌++◌, length, drop, get_or, true, false, arith}
 use Rattle.std.specs.Prelude.{◌&&◌, ◌==◌, nat_le, Option, Some, None, Result, Ok, Err, if◌then◌else◌}
 use Rattle.std.specs.List.{list_all}
 use Rattle.std.specs.Str.{IsUtf8, is_utf8}
@@ -11,10 +11,10 @@ use Rattle.std.proofs.lemmas.List.{drop_more, append_assoc, append-nil}
 use Rattle.std.proofs.lemmas.Option.{none-some}
 use Rattle.sql_lex.specs.declared.tokens.Token.{Token}
 use Rattle.sql_lex.specs.declared.tokens.TokenKind.{TokenKind}
-use Rattle.sql_lex.specs.declared.tokens.LexError.{LexError}
-use Rattle.sql_lex.specs.declared.tokens.LexError.TheVariants as error
-use Rattle.sql_lex.specs.Tokens.{given}
-use Rattle.sql_lex.specs.Lexing.{number_of, grown, text_of, joined, tokens_behind, token_at, item_at, mark_token}
+use Rattle.sql_lex.specs.declared.errors.LexError.{LexError}
+use Rattle.sql_lex.specs.declared.errors.LexError.TheVariants as error
+use Rattle.sql_lex.specs.Tokens.{given_tokens}
+use Rattle.sql_lex.specs.Lexing.{number_of, grown_text, text_of, joined_tokens, tokens_behind, token_at, item_at, mark_token}
 
 -- the number of digits that follow those of a number, within the limit
 abbrev pub number_after : ℕ → List ℕ → Option ℕ
@@ -56,25 +56,25 @@ pub number_after-end : (value : ℕ) → value ≤ 9223372036854775808 → numbe
 number_after-end value h = let small : nat_le value 9223372036854775808 ≡ true = le-leb value 9223372036854775808 h in rw small refl
 
 -- what stands in front of what stands in front
-pub grown-grown : (front more : List ℕ) (m n : ℕ) (o : Option (List ℕ × ℕ)) → grown front m (grown more n o) ≡ grown (front ++ more) (m + n) o
+pub grown-grown : (front more : List ℕ) (m n : ℕ) (o : Option (List ℕ × ℕ)) → grown_text front m (grown_text more n o) ≡ grown_text (front ++ more) (m + n) o
 grown-grown front more m n None = refl
 grown-grown front more m n (Some (text, size)) = let a : m + (n + size) ≡ m + n + size = omega arith in rw (a, append_assoc front more text) refl
 
 -- nothing in front
-pub grown-none : (o : Option (List ℕ × ℕ)) → grown [] 0 o ≡ o
+pub grown-none : (o : Option (List ℕ × ℕ)) → grown_text [] 0 o ≡ o
 grown-none None = refl
 grown-none (Some (text, size)) = let a : 0 + size ≡ size = omega arith in rw a refl
 
 -- a byte of a text that is no quote, behind none
-pub text_of-byte : (b : ℕ) (bytes : List ℕ) → (b == 39) ≡ false → text_of false (b ∷ bytes) ≡ grown (b ∷ []) 1 (text_of false bytes)
+pub text_of-byte : (b : ℕ) (bytes : List ℕ) → (b == 39) ≡ false → text_of false (b ∷ bytes) ≡ grown_text (b ∷ []) 1 (text_of false bytes)
 text_of-byte b bytes e = rw e refl
 
 -- a first quote
-pub text_of-quote : (b : ℕ) (bytes : List ℕ) → (b == 39) ≡ true → text_of false (b ∷ bytes) ≡ grown [] 1 (text_of true bytes)
+pub text_of-quote : (b : ℕ) (bytes : List ℕ) → (b == 39) ≡ true → text_of false (b ∷ bytes) ≡ grown_text [] 1 (text_of true bytes)
 text_of-quote b bytes e = rw e refl
 
 -- a second quote
-pub text_of-doubled : (b : ℕ) (bytes : List ℕ) → (b == 39) ≡ true → text_of true (b ∷ bytes) ≡ grown (39 ∷ []) 1 (text_of false bytes)
+pub text_of-doubled : (b : ℕ) (bytes : List ℕ) → (b == 39) ≡ true → text_of true (b ∷ bytes) ≡ grown_text (39 ∷ []) 1 (text_of false bytes)
 text_of-doubled b bytes e = rw e refl
 
 -- the end behind a quote
@@ -108,22 +108,22 @@ item_at-empty = rw (token_at-empty [] refl) refl
 
 -- a byte of a text more
 pub at_byte : (front bytes : List ℕ) (i : ℕ) → i < length bytes → get_or bytes i 0 ≢ 39
-    → grown front i (text_of false (drop i bytes)) ≡ grown (front ++ get_or bytes i 0 ∷ []) (i + 1) (text_of false (drop (i + 1) bytes))
+    → grown_text front i (text_of false (drop i bytes)) ≡ grown_text (front ++ get_or bytes i 0 ∷ []) (i + 1) (text_of false (drop (i + 1) bytes))
 at_byte front bytes i within ne =
     let e : (get_or bytes i 0 == 39) ≡ false = ne_eqb (get_or bytes i 0) 39 ne in
     rw (drop_more bytes i 0 within, text_of-byte (get_or bytes i 0) (drop (i + 1) bytes) e) (grown-grown front (get_or bytes i 0 ∷ []) i 1 (text_of false (drop (i + 1) bytes)))
 
 -- a first quote more
 pub at_quote : (front bytes : List ℕ) (i : ℕ) → i < length bytes → get_or bytes i 0 ≡ 39
-    → grown front i (text_of false (drop i bytes)) ≡ grown front (i + 1) (text_of true (drop (i + 1) bytes))
+    → grown_text front i (text_of false (drop i bytes)) ≡ grown_text front (i + 1) (text_of true (drop (i + 1) bytes))
 at_quote front bytes i within is =
     let e : (get_or bytes i 0 == 39) ≡ true = eq-eqb (get_or bytes i 0) 39 is in
     rw (drop_more bytes i 0 within, text_of-quote (get_or bytes i 0) (drop (i + 1) bytes) e)
-    (grown-grown front [] i 1 (text_of true (drop (i + 1) bytes)) ∙ ap (λ (f : List ℕ). grown f (i + 1) (text_of true (drop (i + 1) bytes))) (append-nil front))
+    (grown-grown front [] i 1 (text_of true (drop (i + 1) bytes)) ∙ ap (λ (f : List ℕ). grown_text f (i + 1) (text_of true (drop (i + 1) bytes))) (append-nil front))
 
 -- a second quote more
 pub at_doubled : (front bytes : List ℕ) (i : ℕ) → i < length bytes → get_or bytes i 0 ≡ 39
-    → grown front i (text_of true (drop i bytes)) ≡ grown (front ++ 39 ∷ []) (i + 1) (text_of false (drop (i + 1) bytes))
+    → grown_text front i (text_of true (drop i bytes)) ≡ grown_text (front ++ 39 ∷ []) (i + 1) (text_of false (drop (i + 1) bytes))
 at_doubled front bytes i within is =
     let e : (get_or bytes i 0 == 39) ≡ true = eq-eqb (get_or bytes i 0) 39 is in
     rw (drop_more bytes i 0 within, text_of-doubled (get_or bytes i 0) (drop (i + 1) bytes) e) (grown-grown front (39 ∷ []) i 1 (text_of false (drop (i + 1) bytes)))
@@ -135,12 +135,12 @@ pub ruleset text_steps = (grown-none, text_of-closed, drop_more, append-nil)
 pub ruleset text_places = (at_byte, at_quote, at_doubled)
 
 -- tokens in front of tokens in front
-pub joined-joined : (front more : List Token) (r : Result (List Token) LexError) → joined front (joined more r) ≡ joined (front ++ more) r
+pub joined-joined : (front more : List Token) (r : Result (List Token) LexError) → joined_tokens front (joined_tokens more r) ≡ joined_tokens (front ++ more) r
 joined-joined front more (Err e) = refl
 joined-joined front more (Ok others) = ap Ok (sym (append_assoc front more others))
 
 -- no tokens in front
-pub joined-none : (r : Result (List Token) LexError) → joined [] r ≡ r
+pub joined-none : (r : Result (List Token) LexError) → joined_tokens [] r ≡ r
 joined-none (Err e) = refl
 joined-none (Ok others) = refl
 
@@ -152,7 +152,7 @@ tokens_behind-drop (suc skipped) offset (b ∷ bytes) = let same : offset + suc 
 
 -- an item, and what stands behind it
 pub tokens_behind-item : (offset : ℕ) (bytes : List ℕ) (token : Option TokenKind) (size : ℕ) → item_at bytes ≡ Some (token, size) → 1 ≤ size
-    → tokens_behind 0 offset bytes ≡ joined (given token offset (offset + size)) (tokens_behind 0 (offset + size) (drop size bytes))
+    → tokens_behind 0 offset bytes ≡ joined_tokens (given_tokens token offset (offset + size)) (tokens_behind 0 (offset + size) (drop size bytes))
 tokens_behind-item offset [] token size h some = absurd (none-some (token, size) (sym item_at-empty ∙ h))
 tokens_behind-item offset (b ∷ bytes) token zero h some = absurd (omega arith)
 tokens_behind-item offset (b ∷ bytes) token (suc size) h some =
@@ -170,7 +170,7 @@ pub ruleset token_steps = (joined-joined, joined-none, tokens_behind-item, token
 
 -- an item more
 pub at_item : (said : Result (List Token) LexError) (tokens more : List Token) (bytes behind : List ℕ) (token : Option TokenKind) (size offset next start end : ℕ)
-    → said ≡ joined tokens (tokens_behind 0 offset bytes) → item_at bytes ≡ Some (token, size) → 1 ≤ size → behind ≡ drop size bytes → next ≡ offset + size
-    → start ≡ offset → end ≡ next → more ≡ tokens ++ given token start end → said ≡ joined more (tokens_behind 0 next behind)
+    → said ≡ joined_tokens tokens (tokens_behind 0 offset bytes) → item_at bytes ≡ Some (token, size) → 1 ≤ size → behind ≡ drop size bytes → next ≡ offset + size
+    → start ≡ offset → end ≡ next → more ≡ tokens ++ given_tokens token start end → said ≡ joined_tokens more (tokens_behind 0 next behind)
 at_item said tokens more bytes behind token size offset next start end e h some left place here there m =
-    e ∙ rw (m, left, here, there, place, tokens_behind-item offset bytes token size h some) (joined-joined tokens (given token offset (offset + size)) (tokens_behind 0 (offset + size) (drop size bytes)))
+    e ∙ rw (m, left, here, there, place, tokens_behind-item offset bytes token size h some) (joined-joined tokens (given_tokens token offset (offset + size)) (tokens_behind 0 (offset + size) (drop size bytes)))

@@ -4,19 +4,19 @@ use Rattle.std.specs.Prelude.{◌==◌, not, Option, Some, None}
 use Rattle.std.specs.List.{list_all}
 use Rattle.std.proofs.lemmas.Bool.{cases_Bool, eqb-true, false≢true, and_parts, not-true}
 use Rattle.std.proofs.lemmas.Option.{none-some, some_pair_parts}
-use Rattle.sql_lex.specs.Tokens.{starts, doubled}
-use Rattle.sql_lex.specs.Lexing.{before, grown, text_of, closes}
+use Rattle.sql_lex.specs.Tokens.{starts, doubled_quotes}
+use Rattle.sql_lex.specs.Lexing.{before, grown_text, text_of, closes}
 use Rattle.sql_lex.proofs.BytesRuns.{run_all, run_split}
 
 -- what was grown
-pub grown_parts : (front : List ℕ) (more : ℕ) (o : Option (List ℕ × ℕ)) (text : List ℕ) (n : ℕ) → grown front more o ≡ Some (text, n)
+pub grown_parts : (front : List ℕ) (more : ℕ) (o : Option (List ℕ × ℕ)) (text : List ℕ) (n : ℕ) → grown_text front more o ≡ Some (text, n)
     → (t : List ℕ) × (k : ℕ) × (o ≡ Some (t, k)) × (front ++ t ≡ text) × (more + k ≡ n)
 grown_parts front more None text n h = absurd (none-some (text, n) h)
 grown_parts front more (Some (t, k)) text n h = let same = some_pair_parts (front ++ t) text (more + k) n h in (t, k, refl, same.0, same.1)
 
 -- a text between quotes, the first of them read, and the rest behind them
 abbrev pub Closes : List ℕ → List ℕ → List ℕ → Type 0
-Closes bytes text rest = (bytes ≡ doubled text ++ 39 ∷ rest) × (starts (λ b. b == 39) rest ≡ false)
+Closes bytes text rest = (bytes ≡ doubled_quotes text ++ 39 ∷ rest) × (starts (λ b. b == 39) rest ≡ false)
 
 -- a text that ends behind a quote
 closed-is : (bytes text : List ℕ) (n : ℕ) → starts (λ b. b == 39) bytes ≡ false → ◌≡◌ {A = Option (List ℕ × ℕ)} (Some ([], 0)) (Some (text, n)) → Closes (39 ∷ bytes) text (drop n bytes)
@@ -88,19 +88,19 @@ closed-at [] e = refl
 closed-at (b ∷ rest) e = rw e refl
 
 -- a text that stands there is read
-pub text-at : (text rest : List ℕ) → starts (λ b. b == 39) rest ≡ false → text_of false (doubled text ++ 39 ∷ rest) ≡ Some (text, length (doubled text) + 1)
+pub text-at : (text rest : List ℕ) → starts (λ b. b == 39) rest ≡ false → text_of false (doubled_quotes text ++ 39 ∷ rest) ≡ Some (text, length (doubled_quotes text) + 1)
 text-at [] rest e = rw (closed-at rest e) refl
 text-at (b ∷ text) rest e =
     elim (cases_Bool (b == 39)) [
       | inl q ↦ (let is : b ≡ 39 = eqb-true b 39 q in
-          let size : 1 + (1 + (length (doubled text) + 1)) ≡ suc (suc (length (doubled text))) + 1 = omega arith in
+          let size : 1 + (1 + (length (doubled_quotes text) + 1)) ≡ suc (suc (length (doubled_quotes text))) + 1 = omega arith in
           rw (is, text-at text rest e, size) refl)
-      | inr q ↦ (let size : 1 + (length (doubled text) + 1) ≡ suc (length (doubled text)) + 1 = omega arith in
+      | inr q ↦ (let size : 1 + (length (doubled_quotes text) + 1) ≡ suc (length (doubled_quotes text)) + 1 = omega arith in
           rw (q, q, text-at text rest e, size) refl)
     ]
 
 -- bytes without a quote are written as they are
-doubled-plain : (bytes : List ℕ) → list_all (λ b. not (b == 39)) bytes ≡ true → doubled bytes ≡ bytes
+doubled-plain : (bytes : List ℕ) → list_all (λ b. not (b == 39)) bytes ≡ true → doubled_quotes bytes ≡ bytes
 doubled-plain [] all = refl
 doubled-plain (b ∷ bytes) all =
     let both = and_parts (not (b == 39)) (list_all (λ b. not (b == 39)) bytes) all in
@@ -115,7 +115,7 @@ text-plain bytes plain (b ∷ rest) is left closed =
     let first : b ≡ 39 = eqb-true b 39 both.0 in
     let end : starts (λ b. b == 39) rest ≡ false = not-true (starts (λ b. b == 39) rest) both.1 in
     let P : List ℕ → Type 0 = λ p. list_all (λ b. not (b == 39)) p ≡ true in
-    let plain_is : doubled plain ≡ plain = doubled-plain plain (subst P (sym is) (run_all (λ b. not (b == 39)) bytes)) in
+    let plain_is : doubled_quotes plain ≡ plain = doubled-plain plain (subst P (sym is) (run_all (λ b. not (b == 39)) bytes)) in
     let Q : List ℕ → Type 0 = λ p. bytes ≡ p ++ drop (length p) bytes in
     let split : bytes ≡ plain ++ drop (length plain) bytes = subst Q (sym is) (run_split (λ b. not (b == 39)) bytes) in
     let whole : bytes ≡ plain ++ 39 ∷ rest = split ∙ ap (λ (r : List ℕ). plain ++ r) (sym left ∙ ap (λ (x : ℕ). x ∷ rest) first) in

@@ -7,10 +7,10 @@ use Rattle.std.proofs.lemmas.Option.{none-some, some_pair_parts}
 use Rattle.std.proofs.lemmas.List.{append-nil}
 use Rattle.sql_lex.specs.declared.tokens.Token.{Token}
 use Rattle.sql_lex.specs.declared.tokens.TokenKind.{TokenKind}
-use Rattle.sql_lex.specs.declared.tokens.LexError.{LexError}
-use Rattle.sql_lex.specs.declared.tokens.LexError.TheVariants as error
-use Rattle.sql_lex.specs.Tokens.{Item, IsItem, Takes, TakesAll, given, tokens_from, order_mark, without_order_mark, IsTokenList, IsBadAt}
-use Rattle.sql_lex.specs.Lexing.{item_at, joined, tokens_behind, lexed}
+use Rattle.sql_lex.specs.declared.errors.LexError.{LexError}
+use Rattle.sql_lex.specs.declared.errors.LexError.TheVariants as error
+use Rattle.sql_lex.specs.Tokens.{Item, IsItem, Takes, TakesAll, given_tokens, tokens_from, order_mark, without_order_mark, IsTokenList, IsBadAt}
+use Rattle.sql_lex.specs.Lexing.{item_at, joined_tokens, tokens_behind, lexed}
 use Rattle.sql_lex.proofs.Found.{item_at-is, item_at-sized, drop_spelling}
 use Rattle.sql_lex.proofs.Standing.{item_reached}
 use Rattle.sql_lex.proofs.Steps.{joined-joined, joined-none, tokens_behind-drop, tokens_behind-item, tokens_behind-none}
@@ -65,7 +65,7 @@ none_read bytes none = by (item_at bytes) refl
 
 -- items that are taken are read
 taken_read : (items : List Item) (bytes rest : List ℕ) (offset end : ℕ) → TakesAll bytes items rest → offset + length bytes ≡ end + length rest
-    → tokens_behind 0 offset bytes ≡ joined (tokens_from offset items) (tokens_behind 0 end rest)
+    → tokens_behind 0 offset bytes ≡ joined_tokens (tokens_from offset items) (tokens_behind 0 end rest)
 taken_read [] bytes rest offset end h place =
     let same_length : length bytes ≡ length rest = ap length h in
     let same : offset ≡ end = omega arith in
@@ -77,9 +77,9 @@ taken_read (item ∷ items) bytes rest offset end (behind, takes, others) place 
     let left = drop_spelling bytes item.spelling behind size takes.split refl in
     let all : length bytes ≡ size + length behind = ap length takes.split ∙ length-append item.spelling behind in
     tokens_behind-item offset bytes item.token size read some
-    ∙ (ap (λ (r : List ℕ). joined (given item.token offset (offset + size)) (tokens_behind 0 (offset + size) r)) left
-    ∙ (ap (joined (given item.token offset (offset + size))) (taken_read items behind rest (offset + size) end others (omega arith))
-    ∙ joined-joined (given item.token offset (offset + size)) (tokens_from (offset + size) items) (tokens_behind 0 end rest)))
+    ∙ (ap (λ (r : List ℕ). joined_tokens (given_tokens item.token offset (offset + size)) (tokens_behind 0 (offset + size) r)) left
+    ∙ (ap (joined_tokens (given_tokens item.token offset (offset + size))) (taken_read items behind rest (offset + size) end others (omega arith))
+    ∙ joined-joined (given_tokens item.token offset (offset + size)) (tokens_from (offset + size) items) (tokens_behind 0 end rest)))
 
 -- what an answer says of the bytes from an offset on: their tokens, or the place at which no item stands
 abbrev Said : ℕ → List ℕ → Result (List Token) LexError → Type 0
@@ -90,7 +90,7 @@ Said offset bytes (Err error.Memory) = ⊥
 
 -- the same with one item before
 said_more : (bytes : List ℕ) (token : Option TokenKind) (size offset : ℕ) (r : Result (List Token) LexError) → item_at bytes ≡ Some (token, size)
-    → Said (offset + size) (drop size bytes) r → Said offset bytes (joined (given token offset (offset + size)) r)
+    → Said (offset + size) (drop size bytes) r → Said offset bytes (joined_tokens (given_tokens token offset (offset + size)) r)
 said_more bytes token size offset (Ok tokens) h (items, taken, is) =
     let t = found_takes bytes token size h in
     let item : Item = record { spelling = t.0; token = token } in
@@ -128,7 +128,7 @@ said_behind zero offset (b ∷ bytes) = by (item_at (b ∷ bytes)) refl (λ n. s
         let behind = tokens_behind-drop n (offset + 1) bytes in
         let P : ℕ → Type 0 = λ k. Said k (drop n bytes) (tokens_behind 0 k (drop n bytes)) in
         let Q : Result (List Token) LexError → Type 0 = λ r. Said (offset + 1 + n) (drop n bytes) r in
-        put (joined (given token offset (offset + suc n)) (tokens_behind 0 (offset + suc n) (drop n bytes))) (tokens_behind-item offset (b ∷ bytes) token (suc n) h one)
+        put (joined_tokens (given_tokens token offset (offset + suc n)) (tokens_behind 0 (offset + suc n) (drop n bytes))) (tokens_behind-item offset (b ∷ bytes) token (suc n) h one)
         (said_more (b ∷ bytes) token (suc n) offset (tokens_behind 0 (offset + suc n) (drop n bytes)) h (subst P place (subst Q behind (more n))))
 
 -- how many bytes an order mark takes
@@ -173,7 +173,7 @@ refused bytes offset bad =
     let place = bad.place in
     let start_place : start + length whole ≡ offset + length bad.rest = omega arith in
     taken_read bad.items whole bad.rest start offset bad.taken start_place
-    ∙ ap (joined (tokens_from start bad.items)) (tokens_behind-none offset bad.rest bad.more (none_read bad.rest bad.none))
+    ∙ ap (joined_tokens (tokens_from start bad.items)) (tokens_behind-none offset bad.rest bad.more (none_read bad.rest bad.none))
 
 -- a place that is told is bad
 pub is_refused : (bytes : List ℕ) (offset : ℕ) → lexed bytes ≡ Err (error.At offset) → IsBadAt bytes offset

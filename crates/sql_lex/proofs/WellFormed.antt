@@ -1,13 +1,13 @@
 -- What a reader of tokens may rely on: their places rise, and they hold words, names and numbers within their limits.
 use Rattle.std.proofs.Common.{◌≡◌, ◌∙◌, ap, sym, subst, ℕ, ◌≤◌, ◌+◌, ◌-◌, List, [], ◌∷◌, ◌++◌, length, arith, length-append}
 use Rattle.std.specs.Prelude.{Option, Some, None}
-use Rattle.rpt_base.proofs.NameFacts.{is_name-utf8, is_name-of_lower}
+use Rattle.rpt_base.proofs.NameFacts.{is_name-utf8, is_name-of_lower, lower-lower}
 use Rattle.sql_lex.specs.declared.tokens.Token.{Token}
 use Rattle.sql_lex.specs.declared.tokens.TokenKind.{TokenKind}
 use Rattle.sql_lex.specs.declared.tokens.TokenKind.TheVariants as kind
-use Rattle.sql_lex.specs.Tokens.{Spells, Item, Takes, TakesAll, given, tokens_from, without_order_mark, IsTokenList, IsKind, AreTokensFrom, AreTokens}
+use Rattle.sql_lex.specs.Tokens.{Spells, Item, Takes, TakesAll, given_tokens, tokens_from, without_order_mark, IsTokenList, IsKind, AreTokensFrom, AreTokens}
 use Rattle.sql_lex.proofs.Found.{item_at-sized}
-use Rattle.sql_lex.proofs.LowerCase.{lower-lower, word-lower, utf8-lower}
+use Rattle.sql_lex.proofs.LowerCase.{word-lower, utf8-lower}
 use Rattle.sql_lex.proofs.TokenLaws.{takes_read, order_mark_within}
 
 -- what a token that bytes write holds
@@ -24,7 +24,7 @@ spelled_kind spelling (kind.Mark mark) h = tt
 formed_more : (spelling : List ℕ) (token : Option TokenKind) (behind : List ℕ) (bytes : List ℕ) (start offset end : ℕ) (tokens : List Token)
     → Takes bytes (record { spelling = spelling; token = token }) behind → start ≤ offset → 1 ≤ length spelling
     → ((from : ℕ) → from ≤ offset + length spelling → AreTokensFrom from end tokens)
-    → AreTokensFrom start end (given token offset (offset + length spelling) ++ tokens)
+    → AreTokensFrom start end (given_tokens token offset (offset + length spelling) ++ tokens)
 formed_more spelling None behind bytes start offset end tokens taken from some others = others start (omega arith)
 formed_more spelling (Some k) behind bytes start offset end tokens taken from some others =
     (from, omega arith, spelled_kind spelling k taken.stands.0, others (offset + length spelling) (omega arith))

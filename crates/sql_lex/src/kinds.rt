@@ -1,19 +1,23 @@
 // The token at the front of bytes, kind by kind, and how many bytes it takes.
-ghost use Rattle.std.specs.Prelude.{◌≡◌, ◌≤◌, ◌<◌, ◌-◌, ◌^◌, Some, ◌==◌, ◌*◌, ◌+◌, ◌++◌, ◌∷◌, [], IfOk, IfSome, OnOk, IsTrue, false, length, SomeIff};
+ghost use Rattle.std.specs.Prelude.{◌≡◌, ◌≤◌, ◌<◌, ◌-◌, ◌^◌, Some, ◌==◌};
+ghost use Rattle.std.specs.Prelude.{IfOk, IfSome, IsTrue, false, length, SomeIff};
 ghost use Rattle.std.specs.Option.{option_map};
 ghost use Rattle.std.specs.List.{list_all};
-ghost use Rattle.std.specs.Char.{digit_value};
 ghost use Rattle.std.specs.Str.{str_to_ascii_lowercase};
 ghost use Rattle.rpt_base.specs.Names.{is_name};
-ghost use Rattle.sql_lex.specs.Tokens.{begins_word as begins, is_word_byte as word_byte, is_word as word, starts, mark_of as mark_said};
-ghost use Rattle.sql_lex.specs.Lexing.{number_of as number_said, run_token as run_said, run_at as run_at_said, text_of as text_said, text_token as text_token_said, closes, quoted_token as quoted_said, quoted_of as quoted_of_said, mark_token as mark_token_said, token_at as token_said};
+ghost use Rattle.sql_lex.specs.Tokens.{begins_word as begins, is_word_byte as word_byte};
+ghost use Rattle.sql_lex.specs.Tokens.{is_word as word, starts, mark_of as mark_said};
+ghost use Rattle.sql_lex.specs.Lexing.{with_digit as longer, number_of as number_said};
+ghost use Rattle.sql_lex.specs.Lexing.{run_token as run_said, run_at as run_at_said};
+ghost use Rattle.sql_lex.specs.Lexing.{text_of as text_said, text_token as text_token_said, closes};
+ghost use Rattle.sql_lex.specs.Lexing.{quoted_token as quoted_said, quoted_of as quoted_of_said};
+ghost use Rattle.sql_lex.specs.Lexing.{mark_token as mark_token_said, token_at as token_said};
 
 use crate::runs::{before, begins_word, is_word_byte, same, skipped, word_run};
 use crate::tokens::{Mark, TokenKind};
+use rpt_base::limits::MAX_NAME_BYTES;
 use rpt_base::{Memory, Name, Str, StrError};
 use std::alloc::Global;
-
-const MAX_WORD_BYTES: usize = 63;
 
 // The greatest number, which only a minus may stand before.
 const MAX_NUMBER: u64 = 9223372036854775808;
@@ -83,7 +87,7 @@ fn lowered(alloc: Global, bytes: &[u8]) -> Result<Str, Memory>
 pub fn is_word(run: &[u8]) -> bool
     ensures { result ≡ word run.now }
 {
-    first_begins_word(run) && are_word_bytes(run) && run.len() <= MAX_WORD_BYTES
+    first_begins_word(run) && are_word_bytes(run) && run.len() <= MAX_NAME_BYTES
 }
 
 fn first_begins_word(run: &[u8]) -> bool
@@ -124,7 +128,7 @@ fn with_digit(value: u64, digit: u8) -> Option<u64>
     requires value { value ≤ 9223372036854775808 }
     requires from { 48 ≤ digit }
     requires to { digit ≤ 57 }
-    ensures { SomeIff result (value * 10 + digit_value digit ≤ 9223372036854775808) (value * 10 + digit_value digit) }
+    ensures { SomeIff result (longer value digit ≤ 9223372036854775808) (longer value digit) }
 {
     if value > MAX_NUMBER / 10 {
         return None;
@@ -182,28 +186,19 @@ fn text_of(alloc: Global, bytes: &[u8]) -> Result<Option<(Vec<u8>, usize)>, Memo
     for (i, b) in bytes.iter().enumerate() {
         if *b == QUOTE {
             if quoted {
-                push_byte(&mut text, QUOTE)?;
+                text.push(QUOTE)?;
             }
             quoted = !quoted;
         } else if quoted {
             return Ok(Some((text, i)));
         } else {
-            push_byte(&mut text, *b)?;
+            text.push(*b)?;
         }
     }
     if quoted {
         Ok(Some((text, bytes.len())))
     } else {
         Ok(None)
-    }
-}
-
-fn push_byte(text: &mut Vec<u8>, byte: u8) -> Result<(), Memory>
-    ensures { OnOk result (text.new.items ≡ text.old.items ++ byte ∷ []) }
-{
-    match text.push(byte) {
-        Ok(()) => Ok(()),
-        Err(_) => Err(Memory),
     }
 }
 

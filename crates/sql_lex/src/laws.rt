@@ -2,7 +2,7 @@
 ghost use Rattle.std.specs.Prelude.{◌≡◌, ℕ, List, Ok, Err, IsTrue};
 ghost use Rattle.rpt_base.specs.Names.{is_name};
 ghost use Rattle.sql_lex.specs.declared.tokens.Token.{Token as Tok};
-ghost use Rattle.sql_lex.specs.declared.tokens.LexError.TheVariants as error;
+ghost use Rattle.sql_lex.specs.declared.errors.LexError.TheVariants as error;
 ghost use Rattle.sql_lex.specs.Tokens.{is_word, IsTokenList, IsBadAt};
 ghost use Rattle.sql_lex.specs.Lexing.{lexed};
 

@@ -1,13 +1,15 @@
 // The tokens of a script's bytes: at each place the longest item that stands there.
-ghost use Rattle.std.specs.Prelude.{◌≡◌, ◌≤◌, ◌-◌, ◌⊎◌, ◌++◌, nat_eq, ℕ, List, IfOk, IsErrOf, OnOk, MatchResult, Err, length};
-ghost use Rattle.sql_lex.specs.declared.tokens.Token.{Token as Tok};
-ghost use Rattle.sql_lex.specs.declared.tokens.LexError.TheVariants as error;
-ghost use Rattle.sql_lex.specs.Tokens.{IsTokenList, IsBadAt, AreTokens, is_blank as blank, starts, given, without_order_mark};
-ghost use Rattle.sql_lex.specs.Lexing.{item_at as item_said, lexed as lexed_said, Gives};
+ghost use Rattle.std.specs.Prelude.{◌≡◌, ◌≤◌, ◌-◌, ◌++◌, ℕ, IfOk, OnOk, Err, length};
+ghost use Rattle.sql_lex.specs.declared.errors.LexError.TheVariants as error;
+ghost use Rattle.sql_lex.specs.Tokens.{IsTokenList, IsBadAt, AreTokens, is_blank as blank};
+ghost use Rattle.sql_lex.specs.Tokens.{starts, given_tokens, without_order_mark};
+ghost use Rattle.sql_lex.specs.Lexing.{item_at as item_said, lexed as lexed_said};
+ghost use Rattle.sql_lex.specs.Lexing.{Gives, GivesNoOther, IsRefusedAt};
 
+use crate::errors::LexError;
 use crate::kinds::token_at;
 use crate::runs::{before, skipped};
-use crate::tokens::{LexError, Token, TokenKind};
+use crate::tokens::{Token, TokenKind};
 use rpt_base::Memory;
 use std::alloc::Global;
 
@@ -19,9 +21,9 @@ use std::alloc::Global;
 pub fn lex(alloc: Global, bytes: &[u8]) -> Result<Vec<Token>, LexError>
     requires { length bytes.now ≤ 1048576 }
     ensures tokens { IfOk result (λ tokens. IsTokenList bytes.now tokens.items) }
-    ensures only { (tokens : List Tok) → IsTokenList bytes.now tokens → MatchResult result (λ found. found.items ≡ tokens) (λ e. e ≡ LexError.Memory) }
+    ensures only { GivesNoOther (λ tokens. tokens.items) bytes.now result }
     ensures bad { (offset : ℕ) → result ≡ Err (LexError.At offset) → IsBadAt bytes.now offset }
-    ensures bad_only { (offset : ℕ) → IsBadAt bytes.now offset → IsErrOf result LexError.Memory ⊎ IsErrOf result (LexError.At offset) }
+    ensures bad_only { (offset : ℕ) → IsBadAt bytes.now offset → IsRefusedAt offset result }
     ensures well_formed { IfOk result (λ tokens. AreTokens (length bytes.now) tokens.items) }
     ensures lexed { Gives (λ tokens. tokens.items) (lexed_said bytes.now) result }
 {
@@ -62,15 +64,13 @@ fn push_given(
     start: u32,
     end: u32,
 ) -> Result<(), Memory>
-    ensures { OnOk result (tokens.new.items ≡ tokens.old.items ++ given kind start end) }
+    ensures { OnOk result (tokens.new.items ≡ tokens.old.items ++ given_tokens kind start end) }
 {
     let Some(kind) = kind else {
         return Ok(());
     };
-    match tokens.push(Token { kind, start, end }) {
-        Ok(()) => Ok(()),
-        Err(_) => Err(Memory),
-    }
+    tokens.push(Token { kind, start, end })?;
+    Ok(())
 }
 
 // The bytes behind a leading byte order mark.

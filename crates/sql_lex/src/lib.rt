@@ -5,13 +5,15 @@
 //! rise and whose words, names and numbers are in their limits. A refusal names the first place where no item stands.
 #![tactic(auto)]
 
+mod errors;
 mod kinds;
 mod laws;
 mod lexing;
 mod runs;
 mod tokens;
 
+pub use errors::LexError;
 pub use kinds::is_word;
 pub use laws::{tokens_are_read, words_are_names};
 pub use lexing::lex;
-pub use tokens::{LexError, Mark, Token, TokenKind};
+pub use tokens::{Mark, Token, TokenKind};

@@ -1,5 +1,5 @@
 // The tokens of a script.
-use rpt_base::{Memory, Str};
+use rpt_base::Str;
 
 /// A mark of one or two bytes. `<>` and `!=` are one mark.
 #[derive(Clone, Copy, Debug, PartialEq, Eq)]
@@ -39,24 +39,4 @@ pub struct Token {
     pub kind: TokenKind,
     pub start: u32,
     pub end: u32,
-}
-
-/// Why bytes have no tokens.
-#[derive(Clone, Copy, Debug, Drop, PartialEq, Eq)]
-pub enum LexError {
-    /// At this offset stands nothing that a script is made of.
-    At { offset: u32 },
-    /// Want of memory.
-    Memory,
-}
-
-impl From<Memory> for LexError {
-    ghost use Rattle.std.specs.Prelude.{◌≡◌};
-    ghost use Rattle.sql_lex.specs.declared.tokens.LexError.TheVariants as error;
-
-    ghost from_gives = { λ _ e. e ≡ error.Memory };
-
-    fn from(_memory: Memory) -> LexError {
-        LexError::Memory
-    }
 }

@@ -9,7 +9,7 @@ use Rattle.sql_grammar.specs.declared.tree.Cond.TheVariants.{rolls-And, rolls-Or
 use Rattle.sql_grammar.specs.declared.tree.Cond.TheOpen.{And, Or, Not, Compare, Between, InList, Like}
 use Rattle.sql_grammar.specs.declared.tree.Cond.TheFolds.{fold-roll-Cond}
 use Rattle.sql_grammar.specs.declared.tree.Expr.{Expr}
-use Rattle.sql_grammar.specs.declared.tree.Op.{Op}
+use Rattle.rpt_base.specs.declared.comparisons.Comparison.{Comparison}
 use Rattle.sql_print.specs.declared.conditions.Room.{Room}
 use Rattle.sql_print.specs.declared.conditions.Room.TheVariants as room
 use Rattle.sql_print.specs.Pieces.{Piece, word, mark, text}
@@ -47,7 +47,7 @@ pub not_is : (at : ℕ) (inner : Cond) (in_room : Room) (more : List Piece) → 
 not_is at inner in_room more =
     ap (λ (x : Cond). cond_pieces x in_room more) (sym (rolls-Not at inner)) ∙ ap (λ (f : Pieces). f in_room more) (fold-roll-Cond Pieces cond_step (Not at inner))
 
-pub compare_is : (at : ℕ) (op : Op) (left right : Expr) (in_room : Room) (more : List Piece)
+pub compare_is : (at : ℕ) (op : Comparison) (left right : Expr) (in_room : Room) (more : List Piece)
     → cond_pieces (c.Compare at op left right) in_room more ≡ expr_pieces left (mark (op_mark op) ∷ expr_pieces right more)
 compare_is at op left right in_room more =
     ap (λ (x : Cond). cond_pieces x in_room more) (sym (rolls-Compare at op left right)) ∙ ap (λ (f : Pieces). f in_room more) (fold-roll-Cond Pieces cond_step (Compare at op left right))

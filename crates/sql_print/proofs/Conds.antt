@@ -12,14 +12,13 @@ use Rattle.sql_grammar.specs.declared.tree.Cond.TheVariants.{rolls-And, rolls-Or
 use Rattle.sql_grammar.specs.declared.tree.Cond.TheOpen.{And, Or, Not, Compare, Between, InList, Like}
 use Rattle.sql_grammar.specs.declared.tree.Cond.TheFolds.{fold-roll-Cond}
 use Rattle.sql_grammar.specs.declared.tree.Expr.{Expr}
-use Rattle.sql_grammar.specs.declared.tree.Op.{Op}
-use Rattle.sql_grammar.specs.declared.tree.Op.TheVariants as o
+use Rattle.rpt_base.specs.declared.comparisons.Comparison.{Comparison}
+use Rattle.rpt_base.specs.declared.comparisons.Comparison.TheVariants as o
 use Rattle.sql_grammar.specs.Places.{place_of_expr}
 use Rattle.sql_grammar.specs.Grammar as g
-use Rattle.sql_grammar.specs.Grammar.{Part, token, word, nothing, ◌▸◌, ◌∣◌, many, level, line, opt, comparisons, Tree, Leaf, None, Both, Left, Right, End, More, In, By}
+use Rattle.sql_grammar.specs.Grammar.{Part, token, word, ◌▸◌, ◌∣◌, many, line, opt, comparisons, Tree, Both, Left, Right, More, In}
 use Rattle.sql_grammar.specs.Meaning.{operand_of, op_of, op_by, is_there, text_of, literal_of, literals_of, tests, test_of}
 use Rattle.sql_print.specs.Pieces as piece
-use Rattle.sql_print.specs.Pieces.{Piece}
 use Rattle.sql_print.specs.Writes.{token_of}
 use Rattle.sql_print.specs.Printed.{expr_pieces, value_pieces, behind_each, op_mark, not_pieces}
 use Rattle.sql_print.specs.Unplaced.{unplaced_expr, unplaced_step, unplaced_cond}
@@ -37,7 +36,7 @@ or_unplaced members = ap unplaced_cond (sym (rolls-Or members)) ∙ fold-roll-Co
 pub not_unplaced : (at : ℕ) (inner : Cond) → unplaced_cond (c.Not at inner) ≡ c.Not 0 (unplaced_cond inner)
 not_unplaced at inner = ap unplaced_cond (sym (rolls-Not at inner)) ∙ fold-roll-Cond Cond unplaced_step (Not at inner)
 
-compare_unplaced : (at : ℕ) (op : Op) (left right : Expr) → unplaced_cond (c.Compare at op left right) ≡ c.Compare 0 op (unplaced_expr left) (unplaced_expr right)
+compare_unplaced : (at : ℕ) (op : Comparison) (left right : Expr) → unplaced_cond (c.Compare at op left right) ≡ c.Compare 0 op (unplaced_expr left) (unplaced_expr right)
 compare_unplaced at op left right = ap unplaced_cond (sym (rolls-Compare at op left right)) ∙ fold-roll-Cond Cond unplaced_step (Compare at op left right)
 
 between_unplaced : (at : ℕ) (negated : Bool) (operand low high : Expr)
@@ -52,7 +51,7 @@ like_unplaced at negated operand pattern = ap unplaced_cond (sym (rolls-Like at 
 
 -- ---- tests
 
-op_kind : (op : Op) (u : Token) → u.kind ≡ token_of (piece.mark (op_mark op)) → (among comparisons (kind_of u) ≡ true) × (op_by (kind_of u) ≡ op)
+op_kind : (op : Comparison) (u : Token) → u.kind ≡ token_of (piece.mark (op_mark op)) → (among comparisons (kind_of u) ≡ true) × (op_by (kind_of u) ≡ op)
 op_kind o.Eq u h = by_kind k.Eq refl refl (mark_kind marks.Eq k.Eq refl u h)
   where
     by_kind : (x : Kind) → among comparisons x ≡ true → op_by x ≡ o.Eq → kind_of u ≡ x → (among comparisons (kind_of u) ≡ true) × (op_by (kind_of u) ≡ o.Eq)
@@ -63,7 +62,7 @@ op_kind o.Le u h = let e = mark_kind marks.Le k.Le refl u h in (subst (λ (y : K
 op_kind o.Gt u h = let e = mark_kind marks.Gt k.Gt refl u h in (subst (λ (y : Kind). among comparisons y ≡ true) (sym e) refl, ap op_by e)
 op_kind o.Ge u h = let e = mark_kind marks.Ge k.Ge refl u h in (subst (λ (y : Kind). among comparisons y ≡ true) (sym e) refl, ap op_by e)
 
-an_op : (op : Op) (m : ℕ) → Derives (token comparisons) (λ d. op_of d ≡ op) m (λ more. piece.mark (op_mark op) ∷ more)
+an_op : (op : Comparison) (m : ℕ) → Derives (token comparisons) (λ d. op_of d ≡ op) m (λ more. piece.mark (op_mark op) ∷ more)
 an_op op m = a_token comparisons (piece.mark (op_mark op)) (λ d. op_of d ≡ op) m (λ u h holds. (op_kind op u h).0) (λ u i h. (op_kind op u h).1)
 
 a_not : (negated : Bool) (m : ℕ) → Derives (opt (word k.Not)) (λ d. is_there d ≡ negated) m (not_pieces negated)
@@ -92,14 +91,14 @@ OfTests condition d = unplaced_cond (test_of d) ≡ unplaced_cond condition
 abbrev IsExpr : Expr → Tree (line g.operand) → Type 0
 IsExpr expr d = unplaced_expr (operand_of d) ≡ unplaced_expr expr
 
-compared : (at : ℕ) (op : Op) (left right : Expr) (d : Tree (line g.operand ▸ token comparisons ▸ line g.operand))
+compared : (at : ℕ) (op : Comparison) (left right : Expr) (d : Tree (line g.operand ▸ token comparisons ▸ line g.operand))
     → Pair (IsExpr left) (Pair (λ x. op_of x ≡ op) (IsExpr right)) d → OfTests (c.Compare at op left right) (Left d)
 compared at op left right (Both a (Both b d)) h =
     compare_unplaced (place_of_expr (operand_of a)) (op_of b) (operand_of a) (operand_of d)
-    ∙ ap (λ (x : Expr). c.Compare 0 (op_of b) x (unplaced_expr (operand_of d))) h.0 ∙ ap (λ (x : Op). c.Compare 0 x (unplaced_expr left) (unplaced_expr (operand_of d))) h.1.0
+    ∙ ap (λ (x : Expr). c.Compare 0 (op_of b) x (unplaced_expr (operand_of d))) h.0 ∙ ap (λ (x : Comparison). c.Compare 0 x (unplaced_expr left) (unplaced_expr (operand_of d))) h.1.0
     ∙ ap (λ (x : Expr). c.Compare 0 op (unplaced_expr left) x) h.1.1 ∙ sym (compare_unplaced at op left right)
 
-pub a_compare : (at : ℕ) (op : Op) (left right : Expr) (m : ℕ)
+pub a_compare : (at : ℕ) (op : Comparison) (left right : Expr) (m : ℕ)
     → Derives tests (OfTests (c.Compare at op left right)) m (λ more. expr_pieces left (piece.mark (op_mark op) ∷ expr_pieces right more))
 a_compare at op left right m =
     as_left (OfTests (c.Compare at op left right)) (λ more. expr_pieces left (piece.mark (op_mark op) ∷ expr_pieces right more))

@@ -11,13 +11,13 @@ use Rattle.sql_grammar.specs.declared.tree.Cond.TheOpen.{Cond-F, And, Or, Not, C
 use Rattle.sql_grammar.specs.declared.tree.Cond.TheViews.{roll-Cond}
 use Rattle.sql_grammar.specs.declared.tree.Cond.TheFolds.{fold-roll-Cond, ind-Cond, map-Cond}
 use Rattle.sql_grammar.specs.declared.tree.Expr.{Expr}
-use Rattle.sql_grammar.specs.declared.tree.Op.{Op}
+use Rattle.rpt_base.specs.declared.comparisons.Comparison.{Comparison}
 use Rattle.sql_grammar.specs.declared.tree.Script.{Script}
 use Rattle.sql_grammar.specs.declared.tree.Source.{Source}
 use Rattle.sql_grammar.specs.Places.{place_of_expr}
 use Rattle.sql_grammar.specs.Grammar as g
-use Rattle.sql_grammar.specs.Grammar.{Part, word, ◌▸◌, ◌∣◌, many, line, opt, Tree, depth, Leaf, Both, Left, Right, End, More, In, By}
-use Rattle.sql_grammar.specs.Meaning.{operand_of, op_of, is_there, text_of, literal_of, literals_of, tests, test_of, joined, cond_of, conjs_of, conj_of, negs_of, neg_of, prim_of, join, joins_of, source_of, more_sources_of, filter_of, script_of}
+use Rattle.sql_grammar.specs.Grammar.{word, ◌▸◌, ◌∣◌, many, line, opt, Tree, depth, Both, Left, Right, End, More, In, By}
+use Rattle.sql_grammar.specs.Meaning.{operand_of, op_of, is_there, text_of, literal_of, literals_of, tests, test_of, joined_conditions, cond_of, conjs_of, conj_of, negs_of, neg_of, prim_of, join, joins_of, source_of, more_sources_of, filter_of, script_of}
 use Rattle.sql_grammar.specs.Sentence.{IsSentence}
 use Rattle.sql_print.specs.declared.conditions.Room.{Room}
 use Rattle.sql_print.specs.declared.conditions.Room.TheVariants as room
@@ -25,7 +25,7 @@ use Rattle.sql_print.specs.Printed.{levels_step, cond_levels, filter_levels, sou
 use Rattle.sql_print.proofs.Nested.{all_levels, and_levels, or_levels, not_levels}
 
 -- a test has no levels
-of_compare : (at : ℕ) (op : Op) (left right : Expr) (in_room : Room) → cond_levels (c.Compare at op left right) in_room ≡ 0
+of_compare : (at : ℕ) (op : Comparison) (left right : Expr) (in_room : Room) → cond_levels (c.Compare at op left right) in_room ≡ 0
 of_compare at op left right in_room = ap (λ (x : Cond). cond_levels x in_room) (sym (rolls-Compare at op left right)) ∙ ap (λ (f : Room → ℕ). f in_room) (fold-roll-Cond (Room → ℕ) levels_step (Compare at op left right))
 
 of_between : (at : ℕ) (negated : Bool) (operand low high : Expr) (in_room : Room) → cond_levels (c.Between at negated operand low high) in_room ≡ 0
@@ -85,11 +85,11 @@ rises = ind-Cond Rises (λ x y is. subst (λ (z : Cond-F Cond). Rises (roll-Cond
 abbrev Within : Room → ℕ → List Cond → Type 0
 Within in_room n xs = all_levels in_room xs ≤ n
 
-and_joined : (x : Cond) (xs : List Cond) (n : ℕ) → cond_levels x room.InAnd ≤ n → Within room.InAnd n xs → cond_levels (joined c.And x xs) room.InOr ≤ n
+and_joined : (x : Cond) (xs : List Cond) (n : ℕ) → cond_levels x room.InAnd ≤ n → Within room.InAnd n xs → cond_levels (joined_conditions c.And x xs) room.InOr ≤ n
 and_joined x [] n h j = let r = rises x in let e = r.1 in omega arith
 and_joined x (y ∷ ys) n h j = let e = and_levels (x ∷ y ∷ ys) room.InOr in omega arith
 
-or_joined : (x : Cond) (xs : List Cond) (n : ℕ) → cond_levels x room.InOr ≤ n → Within room.InOr n xs → cond_levels (joined c.Or x xs) room.Whole ≤ n
+or_joined : (x : Cond) (xs : List Cond) (n : ℕ) → cond_levels x room.InOr ≤ n → Within room.InOr n xs → cond_levels (joined_conditions c.Or x xs) room.Whole ≤ n
 or_joined x [] n h j = let r = rises x in let e = r.0 in omega arith
 or_joined x (y ∷ ys) n h j = let e = or_levels (x ∷ y ∷ ys) room.Whole in omega arith
 

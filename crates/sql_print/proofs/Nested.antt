@@ -15,10 +15,11 @@ use Rattle.sql_grammar.specs.declared.tree.Cond.TheOpen.{Cond-F, And, Or, Not, C
 use Rattle.sql_grammar.specs.declared.tree.Cond.TheViews.{roll-Cond}
 use Rattle.sql_grammar.specs.declared.tree.Cond.TheFolds.{fold-roll-Cond, ind-Cond, map-Cond}
 use Rattle.sql_grammar.specs.declared.tree.Expr.{Expr}
-use Rattle.sql_grammar.specs.Formed.{formed_step, is_cond, has_one, has_two}
+use Rattle.sql_grammar.specs.Formed.{formed_step, is_cond, has_two}
 use Rattle.sql_grammar.specs.Grammar as g
-use Rattle.sql_grammar.specs.Grammar.{Part, token, word, nothing, ◌▸◌, ◌∣◌, many, level, line, opt, Tree, Leaf, None, Both, Left, Right, End, More, In, By}
-use Rattle.sql_grammar.specs.Meaning.{tests, joined, cond_of, conjs_of, conj_of, negs_of, neg_of, prim_of}
+use Rattle.sql_grammar.specs.Grammar.{Part, word, ◌▸◌, ◌∣◌, many, line, Tree, Both, Left, End, More, In, By}
+use Rattle.sql_grammar.specs.Meaning.{tests, joined_conditions, cond_of, conjs_of, conj_of, negs_of, neg_of, prim_of}
+use Rattle.sql_grammar.proofs.Formed.{list_is as list_formed, not_is as not_formed}
 use Rattle.sql_print.specs.declared.conditions.Room.{Room}
 use Rattle.sql_print.specs.declared.conditions.Room.TheVariants as room
 use Rattle.sql_print.specs.Pieces as piece
@@ -132,13 +133,13 @@ more_conjs m (x ∷ xs) h =
     (both (NextJ x) (λ more. piece.word (codes "OR") ∷ more) (cond_pieces x room.InOr) (a_word (codes "OR") k.Or m refl) h.0 (λ a b i j. j)) (more_conjs m xs h.1) (one_j x xs)
 
 and_joined : (a : Cond) (ds : List Cond) (x y : Cond) (ys : List Cond) → unplaced_cond a ≡ unplaced_cond x → map unplaced_cond ds ≡ map unplaced_cond (y ∷ ys)
-    → unplaced_cond (joined c.And a ds) ≡ unplaced_cond (c.And (x ∷ y ∷ ys))
+    → unplaced_cond (joined_conditions c.And a ds) ≡ unplaced_cond (c.And (x ∷ y ∷ ys))
 and_joined a [] x y ys h i = absurd cc
 and_joined a (d ∷ ds) x y ys h i =
     and_unplaced (a ∷ d ∷ ds) ∙ ap (λ (z : Cond). c.And (z ∷ map unplaced_cond (d ∷ ds))) h ∙ ap (λ (zs : List Cond). c.And (unplaced_cond x ∷ zs)) i ∙ sym (and_unplaced (x ∷ y ∷ ys))
 
 or_joined : (a : Cond) (ds : List Cond) (x y : Cond) (ys : List Cond) → unplaced_cond a ≡ unplaced_cond x → map unplaced_cond ds ≡ map unplaced_cond (y ∷ ys)
-    → unplaced_cond (joined c.Or a ds) ≡ unplaced_cond (c.Or (x ∷ y ∷ ys))
+    → unplaced_cond (joined_conditions c.Or a ds) ≡ unplaced_cond (c.Or (x ∷ y ∷ ys))
 or_joined a [] x y ys h i = absurd cc
 or_joined a (d ∷ ds) x y ys h i =
     or_unplaced (a ∷ d ∷ ds) ∙ ap (λ (z : Cond). c.Or (z ∷ map unplaced_cond (d ∷ ds))) h ∙ ap (λ (zs : List Cond). c.Or (unplaced_cond x ∷ zs)) i ∙ sym (or_unplaced (x ∷ y ∷ ys))
@@ -164,12 +165,6 @@ and_formed members = ap is_cond (sym (rolls-And members)) ∙ fold-roll-Cond Boo
 
 or_formed : (members : List Cond) → is_cond (c.Or members) ≡ (has_two (map is_cond members) && list_all (λ member. member) (map is_cond members))
 or_formed members = ap is_cond (sym (rolls-Or members)) ∙ fold-roll-Cond Bool formed_step (Or members)
-
-not_formed : (at : ℕ) (inner : Cond) → is_cond (c.Not at inner) ≡ is_cond inner
-not_formed at inner = ap is_cond (sym (rolls-Not at inner)) ∙ fold-roll-Cond Bool formed_step (Not at inner)
-
-list_formed : (at : ℕ) (negated : Bool) (operand : Expr) (values : List Value) → is_cond (c.InList at negated operand values) ≡ has_one values
-list_formed at negated operand values = ap is_cond (sym (rolls-InList at negated operand values)) ∙ fold-roll-Cond Bool formed_step (InList at negated operand values)
 
 abbrev pub all_levels : Room → List Cond → ℕ
 all_levels in_room [] = 0

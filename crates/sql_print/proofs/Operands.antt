@@ -13,21 +13,22 @@ use Rattle.sql_lex.specs.declared.tokens.Mark.{Mark}
 use Rattle.sql_lex.specs.declared.tokens.Mark.TheVariants as marks
 use Rattle.sql_grammar.specs.declared.kinds.Kind.{Kind}
 use Rattle.sql_grammar.specs.declared.kinds.Kind.TheVariants as k
-use Rattle.sql_grammar.specs.Kinds.{kind_of, kind_by, kind_of_mark, among, code, has, is_name_in_lower_case}
+use Rattle.sql_grammar.specs.Kinds.{kind_of, kind_by, kind_of_mark, among, is_name_in_lower_case}
+use Rattle.rpt_base.specs.Lists.{has}
 use Rattle.sql_grammar.specs.declared.tree.ColumnName.{ColumnName}
 use Rattle.sql_grammar.specs.declared.tree.Expr.{Expr}
 use Rattle.sql_grammar.specs.declared.tree.Expr.TheVariants as e
 use Rattle.sql_grammar.specs.Grammar as g
-use Rattle.sql_grammar.specs.Grammar.{Part, token, word, nothing, ◌▸◌, ◌∣◌, many, line, opt, name, names, magnitudes, rule, Tree, Leaf, Both, Left, Right, By}
-use Rattle.sql_grammar.specs.Meaning.{written, magnitude, named, alone, within, colref_of, literal_of, negative_of, text_of, operand_of}
+use Rattle.sql_grammar.specs.Grammar.{Part, word, ◌▸◌, ◌∣◌, line, opt, name, names, magnitudes, Tree, Both, Left, Right, By}
+use Rattle.sql_grammar.specs.Meaning.{written_text, magnitude, placed_name, alone, within, colref_of, literal_of, negative_of, text_of, operand_of}
+use Rattle.sql_grammar.proofs.Leads.{among_one}
 use Rattle.sql_print.specs.Pieces as piece
-use Rattle.sql_print.specs.Pieces.{Piece, IsPiece}
 use Rattle.sql_print.specs.Writes.{token_of}
 use Rattle.sql_print.specs.Printed.{relation_pieces, column_pieces, int_pieces, value_pieces, expr_pieces}
 use Rattle.sql_print.specs.Unplaced.{unplaced_column, unplaced_expr}
 use Rattle.sql_print.proofs.Derives.{Derives, both, as_left, as_right, as_line, absent, a_token}
 
-self : (n : ℕ) → has (n ∷ []) n ≡ true
+self : (n : ℕ) → has n (n ∷ []) ≡ true
 self n = grind (arith, nat_tests)
 
 -- nothing is asked
@@ -41,9 +42,6 @@ word_kind w kind is u h = ap kind_by h ∙ is
 pub mark_kind : (written : Mark) (kind : Kind) → kind_of_mark written ≡ kind → (u : Token) → u.kind ≡ token_of (piece.mark written) → kind_of u ≡ kind
 unfolding kind_of
 mark_kind written kind is u h = ap kind_by h ∙ is
-
-among_one : (kind : Kind) (u : Token) → kind_of u ≡ kind → among (kind ∷ []) (kind_of u) ≡ true
-among_one kind u h = subst (λ (x : Kind). among (kind ∷ []) x ≡ true) (sym h) (self (code kind))
 
 -- a keyword
 pub a_word : (w : List ℕ) (kind : Kind) (m : ℕ) → kind_by (t.Word (str_to_ascii_lowercase w)) ≡ kind → Derives (word kind) Any m (λ more. piece.word w ∷ more)
@@ -60,8 +58,8 @@ name_kind n u h is =
     let e : kind_by (t.Quoted n) ≡ k.Name = (let b : is_name_in_lower_case n ≡ true = is in rw b refl) in
     subst (λ (x : Kind). among names x ≡ true) (sym (ap kind_by h ∙ e)) refl
 
-pub a_name : (n : List ℕ) (m : ℕ) → Derives name (λ d. (named d).name ≡ n) m (λ more. piece.name n ∷ more)
-a_name n m = a_token names (piece.name n) (λ d. (named d).name ≡ n) m (λ u h holds. name_kind n u h holds) (λ u i h. ap written h)
+pub a_name : (n : List ℕ) (m : ℕ) → Derives name (λ d. (placed_name d).name ≡ n) m (λ more. piece.name n ∷ more)
+a_name n m = a_token names (piece.name n) (λ d. (placed_name d).name ≡ n) m (λ u h holds. name_kind n u h holds) (λ u i h. ap written_text h)
 
 -- ---- columns
 
@@ -74,16 +72,16 @@ IsLeft (Right b) = ⊥
 
 abbrev IsSecond : List ℕ → Tree (opt (word k.Dot ▸ name)) → Type 0
 IsSecond n (Left a) = ⊥
-IsSecond n (Right (Both dot second)) = (named second).name ≡ n
+IsSecond n (Right (Both dot second)) = (placed_name second).name ≡ n
 
-one_name : (column : List ℕ) (a : Tree name) (b : Tree (opt (word k.Dot ▸ name))) → (named a).name ≡ column → IsLeft b → IsColumn None column (By (Both a b))
+one_name : (column : List ℕ) (a : Tree name) (b : Tree (opt (word k.Dot ▸ name))) → (placed_name a).name ≡ column → IsLeft b → IsColumn None column (By (Both a b))
 one_name column a (Left b) h i = ap (λ (n : List ℕ). unplaced_column (alone (record { at = 0; name = n }))) h
 one_name column a (Right b) h i = absurd i
 
-two_names : (relation column : List ℕ) (a : Tree name) (b : Tree (opt (word k.Dot ▸ name))) → (named a).name ≡ relation → IsSecond column b → IsColumn (Some relation) column (By (Both a b))
+two_names : (relation column : List ℕ) (a : Tree name) (b : Tree (opt (word k.Dot ▸ name))) → (placed_name a).name ≡ relation → IsSecond column b → IsColumn (Some relation) column (By (Both a b))
 two_names relation column a (Left b) h i = absurd i
 two_names relation column a (Right (Both dot second)) h i =
-    ap (λ (n : List ℕ). unplaced_column (within (record { at = 0; name = n }) (named second))) h
+    ap (λ (n : List ℕ). unplaced_column (within (record { at = 0; name = n }) (placed_name second))) h
     ∙ ap (λ (n : List ℕ). unplaced_column (within (record { at = 0; name = relation }) (record { at = 0; name = n }))) i
 
 a_column : (relation : Option (List ℕ)) (column : List ℕ) (m : ℕ) → Derives (line g.colref) (IsColumn relation column) m (λ more. relation_pieces relation (piece.name column ∷ more))
@@ -121,7 +119,7 @@ unfolding kind_of
 text_kind w u h = ap kind_by h
 
 pub a_text : (w : List ℕ) (m : ℕ) → Derives (word k.Text) (λ d. text_of d ≡ w) m (λ more. piece.text w ∷ more)
-a_text w m = a_token (k.Text ∷ []) (piece.text w) (λ d. text_of d ≡ w) m (λ u h holds. among_one k.Text u (text_kind w u h)) (λ u i h. ap written h)
+a_text w m = a_token (k.Text ∷ []) (piece.text w) (λ d. text_of d ≡ w) m (λ u h holds. among_one k.Text u (text_kind w u h)) (λ u i h. ap written_text h)
 
 an_int : (z : ℤ) (m : ℕ) → Derives (line g.literal) (λ d. literal_of d ≡ v.Int z) m (int_pieces z)
 an_int (pos n) m =

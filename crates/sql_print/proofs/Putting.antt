@@ -10,7 +10,7 @@ use Rattle.std.proofs.lemmas.Bool.{and_from}
 use Rattle.std.proofs.lemmas.Bool.Decides.{nat_tests}
 use Rattle.rpt_base.specs.Names.{is_name}
 use Rattle.sql_grammar.specs.Kinds.{is_name_in_lower_case, is_not_capital}
-use Rattle.sql_print.specs.Pieces.{Piece, name, mark, magnitude, spelling, shown, IsPiece, ArePieces}
+use Rattle.sql_print.specs.Pieces.{Piece, name, mark, magnitude, spelling, shown_text, IsPiece, ArePieces}
 use Rattle.sql_print.specs.Printed.{int_pieces}
 use Rattle.sql_print.specs.Puts.{Puts, Leaves}
 
@@ -25,15 +25,15 @@ then {first} {second} a b = record { shows = λ more. a.shows (second more) ∙ 
 -- one piece
 pub one : (piece : Piece) {old new : List ℕ} → IsPiece piece → new ≡ old ++ (spelling piece ++ 32 ∷ []) → Puts (λ more. piece ∷ more) old new
 one piece {old} {new} holds e = record {
-  shows = λ more. ap (λ (xs : List ℕ). old ++ xs) (sym (append_assoc (spelling piece) (32 ∷ []) (shown more)))
-      ∙ sym (append_assoc old (spelling piece ++ 32 ∷ []) (shown more)) ∙ ap (λ (xs : List ℕ). xs ++ shown more) (sym e);
+  shows = λ more. ap (λ (xs : List ℕ). old ++ xs) (sym (append_assoc (spelling piece) (32 ∷ []) (shown_text more)))
+      ∙ sym (append_assoc old (spelling piece ++ 32 ∷ []) (shown_text more)) ∙ ap (λ (xs : List ℕ). xs ++ shown_text more) (sym e);
   holds = λ more h. (holds, h);
 }
 
 -- the same pieces
 pub same : {these those : List Piece → List Piece} {x y : List ℕ} → ((more : List Piece) → these more ≡ those more) → Puts these x y → Puts those x y
 same {these} {those} {x} {y} e h = record {
-  shows = λ more. ap (λ (ps : List Piece). x ++ shown ps) (sym (e more)) ∙ h.shows more;
+  shows = λ more. ap (λ (ps : List Piece). x ++ shown_text ps) (sym (e more)) ∙ h.shows more;
   holds = λ more k. subst ArePieces (e more) (h.holds more k);
 }
 

@@ -2,6 +2,7 @@
 use Rattle.std.proofs.Common.{◌≡◌, ◌∙◌, ap, sym, refl, subst, ℕ, ◌≤◌, List, [], ◌∷◌, ◌++◌, length, true, arith, map, Option, Some, None, codes}
 use Rattle.rpt_base.specs.declared.values.ColumnType.{ColumnType}
 use Rattle.rpt_base.specs.declared.values.ColumnType.TheVariants as column_type
+use Rattle.rpt_base.specs.declared.limits.TheConstants.{MAX_LEVELS}
 use Rattle.sql_lex.specs.declared.tokens.Token.{Token}
 use Rattle.sql_lex.specs.declared.tokens.Mark.TheVariants as marks
 use Rattle.sql_grammar.specs.declared.kinds.Kind.{Kind}
@@ -18,11 +19,11 @@ use Rattle.sql_grammar.specs.declared.tree.Items.TheVariants as i
 use Rattle.sql_grammar.specs.declared.tree.Script.{Script}
 use Rattle.sql_grammar.specs.declared.tree.Select.{Select}
 use Rattle.sql_grammar.specs.declared.tree.Source.{Source}
-use Rattle.sql_grammar.specs.Formed.{is_cond, IsFilter, AreSources, IsFrom, AreItems, AreTables, IsWellFormed}
+use Rattle.sql_grammar.specs.Formed.{is_cond, IsFilter, AreSources, IsFrom, AreItems, HaveColumns, IsWellFormed}
 use Rattle.sql_grammar.specs.Sentence.{IsSentence}
 use Rattle.sql_grammar.specs.Grammar as g
-use Rattle.sql_grammar.specs.Grammar.{Part, token, word, name, types, ◌▸◌, ◌∣◌, many, line, opt, Tree, text, depth, Leaf, Both, Left, Right, End, More, By}
-use Rattle.sql_grammar.specs.Meaning.{named, alias_of, title_of, colref_of, item_of, more_items_of, items_of, factor_of, join, join_of, joins_of, source_of, more_sources_of, filter_of, cond_of, selected, select_of, type_by, type_of, column_of, more_columns_of, create_of, creates_of, scripted, script_of}
+use Rattle.sql_grammar.specs.Grammar.{Part, token, word, name, types, ◌▸◌, ◌∣◌, many, line, opt, Tree, text, depth, Leaf, Both, Right, End, More, By}
+use Rattle.sql_grammar.specs.Meaning.{placed_name, alias_of, title_of, colref_of, item_of, more_items_of, items_of, factor_of, join, join_of, joins_of, source_of, more_sources_of, filter_of, cond_of, whole_select, select_of, type_by, type_of, column_of, more_columns_of, create_of, creates_of, whole_script, script_of}
 use Rattle.sql_print.specs.declared.conditions.Room.TheVariants as room
 use Rattle.sql_print.specs.Pieces as piece
 use Rattle.sql_print.specs.Pieces.{Piece, ArePieces}
@@ -39,7 +40,7 @@ abbrev renamed : Part
 renamed = opt (word k.As) ▸ name
 
 abbrev IsNamed : List ℕ → Tree renamed → Type 0
-IsNamed n (Both keyword d) = (named d).name ≡ n
+IsNamed n (Both keyword d) = (placed_name d).name ≡ n
 
 a_renaming : (n : List ℕ) (m : ℕ) → Derives renamed (IsNamed n) m (λ more. piece.word (codes "AS") ∷ piece.name n ∷ more)
 a_renaming n m =
@@ -123,7 +124,7 @@ a_factor source m =
     as_line g.factor (IsFactor source) (factor_pieces source)
     (both (λ d. IsFactor source (By d)) (λ more. piece.name source.table ∷ more) (alias_pieces source.alias) (a_name source.table m) (an_alias source.alias m) good) (λ a h. h)
   where
-    good : (a : Tree name) (b : Tree (opt renamed)) → (named a).name ≡ source.table → unplaced_name (alias_of b) ≡ unplaced_name source.alias → IsFactor source (By (Both a b))
+    good : (a : Tree name) (b : Tree (opt renamed)) → (placed_name a).name ≡ source.table → unplaced_name (alias_of b) ≡ unplaced_name source.alias → IsFactor source (By (Both a b))
     good a b h j = ap (λ (x : List ℕ). made_source x (unplaced_name (alias_of b)) None) h ∙ ap (λ (x : Option Alias). made_source source.table x None) j
 
 -- a source's table and alias, with this condition
@@ -336,9 +337,9 @@ IsSelect select d = unplaced_select (select_of d) ≡ unplaced_select select
 
 flat_good : (select : Select) (a : Tree grouped) → Behind (Pair (IsItems select.items) (Behind (Pair (From select.sources) (IsWhere select.filter)))) a → IsSelect select (By (flat a))
 flat_good select (Both keyword (Both items (Both from_word (Both (Both first more) filter)))) h =
-    ap (λ (x : Items). selected x (map unplaced_source (source_of first ++ more_sources_of more)) (unplaced_filter (filter_of filter))) h.0
-    ∙ ap (λ (xs : List Source). selected (unplaced_items select.items) xs (unplaced_filter (filter_of filter))) h.1.0
-    ∙ ap (λ (x : Option Cond). selected (unplaced_items select.items) (map unplaced_source select.sources) x) h.1.1
+    ap (λ (x : Items). whole_select x (map unplaced_source (source_of first ++ more_sources_of more)) (unplaced_filter (filter_of filter))) h.0
+    ∙ ap (λ (xs : List Source). whole_select (unplaced_items select.items) xs (unplaced_filter (filter_of filter))) h.1.0
+    ∙ ap (λ (x : Option Cond). whole_select (unplaced_items select.items) (map unplaced_source select.sources) x) h.1.1
 
 a_select : (select : Select) (m : ℕ) → AreItems select.items → IsFrom select.sources → IsFilter select.filter → sources_levels select.sources ≤ m → filter_levels select.filter ≤ m
     → Derives (line g.select) (IsSelect select) m (select_pieces select)
@@ -370,7 +371,7 @@ a_declared column m =
     as_line g.column (IsDeclared column) (declared_pieces column)
     (both (λ d. IsDeclared column (By d)) (λ more. piece.name column.name ∷ more) (λ more. piece.word (type_word column.kind) ∷ more) (a_name column.name m) (a_type column.kind m) good) (λ a h. h)
   where
-    good : (a : Tree name) (b : Tree (token types)) → (named a).name ≡ column.name → type_of b ≡ column.kind → IsDeclared column (By (Both a b))
+    good : (a : Tree name) (b : Tree (token types)) → (placed_name a).name ≡ column.name → type_of b ≡ column.kind → IsDeclared column (By (Both a b))
     good a b h j = ap (λ (x : List ℕ). made_declared x (type_of b)) h ∙ ap (λ (x : ColumnType). made_declared column.name x) j
 
 abbrev NextDeclared : ColumnItem → Tree (word k.Comma ▸ line g.column) → Type 0
@@ -396,7 +397,7 @@ abbrev create_part : Part
 create_part = word k.Create ▸ word k.Table ▸ name ▸ word k.LeftParen ▸ line g.column ▸ many (word k.Comma ▸ line g.column) ▸ word k.RightParen ▸ word k.Semicolon
 
 table_good : (n : List ℕ) (column : ColumnItem) (columns : List ColumnItem) (d : Tree create_part)
-    → Behind (Behind (Pair (λ x. (named x).name ≡ n) (Behind (Pair (IsDeclared column) (Pair (AreDeclared columns) Any))))) d
+    → Behind (Behind (Pair (λ x. (placed_name x).name ≡ n) (Behind (Pair (IsDeclared column) (Pair (AreDeclared columns) Any))))) d
     → unplaced_table (create_of (By d)) ≡ made_table n (map unplaced_declared (column ∷ columns))
 table_good n column columns (Both keyword (Both table (Both called (Both left (Both first (Both more (Both right semicolon))))))) h =
     ap (λ (x : List ℕ). made_table x (unplaced_declared (column_of first) ∷ map unplaced_declared (more_columns_of more))) h.0
@@ -443,7 +444,7 @@ a_table_by n (column ∷ columns) m some = a_table_of n column columns m
 a_table : (table : CreateTable) (m : ℕ) → 1 ≤ length table.columns → Derives (line g.create) (IsTable table) m (table_pieces table)
 a_table table m some = a_table_by table.name table.columns m some
 
-the_tables : (tables : List CreateTable) (m : ℕ) → AreTables tables → Derives (many (line g.create)) (λ d. map unplaced_table (creates_of d) ≡ map unplaced_table tables) m (tables_pieces tables)
+the_tables : (tables : List CreateTable) (m : ℕ) → HaveColumns tables → Derives (many (line g.create)) (λ d. map unplaced_table (creates_of d) ≡ map unplaced_table tables) m (tables_pieces tables)
 the_tables [] m formed = no_more (line g.create) (λ d. map unplaced_table (creates_of d) ≡ []) m refl
 the_tables (table ∷ tables) m formed =
     one_more (λ d. map unplaced_table (creates_of d) ≡ map unplaced_table (table ∷ tables)) (table_pieces table) (tables_pieces tables)
@@ -455,8 +456,8 @@ the_tables (table ∷ tables) m formed =
 last_kind : (u : Token) → u.kind ≡ token_of (piece.mark marks.Semicolon) → among (k.Semicolon ∷ []) (kind_of u) ≡ true
 last_kind u h = subst (λ (x : Kind). among (k.Semicolon ∷ []) x ≡ true) (sym (mark_kind marks.Semicolon k.Semicolon refl u h)) refl
 
-pub reread : (script : Script) → IsWellFormed script → script_levels script ≤ 64 → ArePieces (script_pieces script [])
-    → (ts : List Token) → Writes (script_pieces script []) ts → (again : Script) × IsSentence 64 ts again × (unplaced again ≡ unplaced script)
+pub reread : (script : Script) → IsWellFormed script → script_levels script ≤ MAX_LEVELS → ArePieces (script_pieces script [])
+    → (ts : List Token) → Writes (script_pieces script []) ts → (again : Script) × IsSentence MAX_LEVELS ts again × (unplaced again ≡ unplaced script)
 reread script formed le holds ts writes =
     let tables = the_tables script.tables 64 formed.tables (select_pieces script.select []) ts holds writes in
     let select = a_select script.select 64 formed.items formed.sources formed.filter (omega arith) (omega arith) [] tables.rest tables.holds tables.left in
@@ -470,5 +471,5 @@ reread script formed le holds ts writes =
         within = (let v = tables.within in let w = select.within in omega arith);
         means = refl;
       },
-      ap (λ (xs : List CreateTable). scripted xs (unplaced_select (select_of select.tree))) tables.good ∙ ap (λ (x : Select). scripted (map unplaced_table script.tables) x) select.good,
+      ap (λ (xs : List CreateTable). whole_script xs (unplaced_select (select_of select.tree))) tables.good ∙ ap (λ (x : Select). whole_script (map unplaced_table script.tables) x) select.good,
     )

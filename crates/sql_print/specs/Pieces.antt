@@ -4,7 +4,7 @@ use Rattle.std.specs.Prelude.{ℕ, ◌≤◌, List, [], ◌∷◌, ◌++◌, cod
 use Rattle.std.specs.Str.{IsUtf8}
 use Rattle.sql_lex.specs.declared.tokens.Mark.{Mark}
 use Rattle.sql_lex.specs.declared.tokens.Mark.TheVariants as m
-use Rattle.sql_lex.specs.Tokens.{is_word, doubled}
+use Rattle.sql_lex.specs.Tokens.{is_word, doubled_quotes}
 use Rattle.sql_grammar.specs.Kinds.{is_name_in_lower_case}
 
 -- The pieces, each of which is a token.
@@ -40,13 +40,13 @@ spelling (word w) = w
 spelling (name n) = 34 ∷ (n ++ 34 ∷ [])
 spelling (number n) = decimal n
 spelling (magnitude n) = decimal n
-spelling (text t) = 39 ∷ (doubled t ++ 39 ∷ [])
+spelling (text t) = 39 ∷ (doubled_quotes t ++ 39 ∷ [])
 spelling (mark m) = mark_text m
 
 -- the pieces with a space behind each, and a semicolon at the end
-abbrev pub shown : List Piece → List ℕ
-shown [] = codes ";"
-shown (piece ∷ pieces) = spelling piece ++ 32 ∷ shown pieces
+abbrev pub shown_text : List Piece → List ℕ
+shown_text [] = codes ";"
+shown_text (piece ∷ pieces) = spelling piece ++ 32 ∷ shown_text pieces
 
 -- the piece is one that a script can hold
 abbrev pub IsPiece : Piece → Type 0

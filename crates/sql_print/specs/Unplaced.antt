@@ -1,6 +1,7 @@
 -- Syntax trees with their places set aside.
 -- Words of this crate's own contracts.
 use Rattle.std.specs.Prelude.{◌≡◌, ℕ, List, map, Option, None, Some}
+use Rattle.rpt_base.specs.declared.limits.TheConstants.{MAX_LEVELS}
 use Rattle.sql_lex.specs.declared.tokens.Token.{Token}
 use Rattle.sql_lex.specs.Tokens.{IsTokenList}
 use Rattle.sql_grammar.specs.declared.tree.Alias.{Alias}
@@ -8,7 +9,8 @@ use Rattle.sql_grammar.specs.declared.tree.ColumnItem.{ColumnItem}
 use Rattle.sql_grammar.specs.declared.tree.ColumnName.{ColumnName}
 use Rattle.sql_grammar.specs.declared.tree.Cond.{Cond}
 use Rattle.sql_grammar.specs.declared.tree.Cond.TheVariants as c
-use Rattle.sql_grammar.specs.declared.tree.Cond.TheOpen.{Cond-F, And, Or, Not, Compare, Between, InList, Like}
+use Rattle.sql_grammar.specs.declared.tree.Cond.TheOpen.{Cond-F, And, Or, Not, Compare}
+use Rattle.sql_grammar.specs.declared.tree.Cond.TheOpen.{Between, InList, Like}
 use Rattle.sql_grammar.specs.declared.tree.Cond.TheFolds.{fold-Cond}
 use Rattle.sql_grammar.specs.declared.tree.CreateTable.{CreateTable}
 use Rattle.sql_grammar.specs.declared.tree.Expr.{Expr}
@@ -37,7 +39,8 @@ unplaced_step (And members) = c.And members
 unplaced_step (Or members) = c.Or members
 unplaced_step (Not at inner) = c.Not 0 inner
 unplaced_step (Compare at op left right) = c.Compare 0 op (unplaced_expr left) (unplaced_expr right)
-unplaced_step (Between at negated operand low high) = c.Between 0 negated (unplaced_expr operand) (unplaced_expr low) (unplaced_expr high)
+unplaced_step (Between at negated operand low high) =
+    c.Between 0 negated (unplaced_expr operand) (unplaced_expr low) (unplaced_expr high)
 unplaced_step (InList at negated operand values) = c.InList 0 negated (unplaced_expr operand) values
 unplaced_step (Like at negated operand pattern) = c.Like 0 negated (unplaced_expr operand) pattern
 
@@ -53,7 +56,12 @@ unplaced_name None = None
 unplaced_name (Some alias) = Some (unplaced_alias alias)
 
 abbrev pub unplaced_source : Source → Source
-unplaced_source source = record { at = 0; table = source.table; alias = unplaced_name source.alias; on = unplaced_filter source.on }
+unplaced_source source = record {
+  at = 0;
+  table = source.table;
+  alias = unplaced_name source.alias;
+  on = unplaced_filter source.on;
+}
 
 abbrev pub unplaced_item : Item → Item
 unplaced_item item = record { column = unplaced_column item.column; title = item.title }
@@ -63,19 +71,29 @@ unplaced_items i.Star = i.Star
 unplaced_items (i.List items) = i.List (map unplaced_item items)
 
 abbrev pub unplaced_select : Select → Select
-unplaced_select select =
-    record { items = unplaced_items select.items; sources = map unplaced_source select.sources; filter = unplaced_filter select.filter }
+unplaced_select select = record {
+  items = unplaced_items select.items;
+  sources = map unplaced_source select.sources;
+  filter = unplaced_filter select.filter;
+}
 
 abbrev pub unplaced_declared : ColumnItem → ColumnItem
 unplaced_declared column = record { at = 0; name = column.name; kind = column.kind }
 
 abbrev pub unplaced_table : CreateTable → CreateTable
-unplaced_table table = record { at = 0; name = table.name; columns = map unplaced_declared table.columns }
+unplaced_table table =
+    record { at = 0; name = table.name; columns = map unplaced_declared table.columns }
 
 abbrev pub unplaced : Script → Script
-unplaced script = record { tables = map unplaced_table script.tables; select = unplaced_select script.select }
+unplaced script =
+    record { tables = map unplaced_table script.tables; select = unplaced_select script.select }
+
+-- the tokens are parsed to the script, places set aside
+abbrev pub IsParsedBack : Script → List Token → Type 0
+IsParsedBack script tokens =
+    (again : Script) × IsSentence MAX_LEVELS tokens again × (unplaced again ≡ unplaced script)
 
 -- the text is lexed and parsed to the script, places set aside
 abbrev pub IsReadBack : Script → List ℕ → Type 0
 IsReadBack script bytes =
-    (tokens : List Token) × IsTokenList bytes tokens × ((again : Script) × IsSentence 64 tokens again × (unplaced again ≡ unplaced script))
+    (tokens : List Token) × IsTokenList bytes tokens × IsParsedBack script tokens

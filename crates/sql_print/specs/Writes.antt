@@ -28,4 +28,5 @@ Writes (piece ∷ pieces) (token ∷ tokens) = (token.kind ≡ token_of piece) �
 
 -- the text is lexed to the pieces of the script
 abbrev pub IsLexed : Script → List ℕ → Type 0
-IsLexed script bytes = (tokens : List Token) × IsTokenList bytes tokens × Writes (script_pieces script []) tokens
+IsLexed script bytes =
+    (tokens : List Token) × IsTokenList bytes tokens × Writes (script_pieces script []) tokens

@@ -1,16 +1,18 @@
 // Printed conditions, with parentheses only where they are needed.
-ghost use Rattle.std.specs.Prelude.{◌≡◌, ◌∷◌, IsTrue, OnOk};
+ghost use Rattle.std.specs.Prelude.{◌≡◌, IsTrue, OnOk};
 ghost use Rattle.sql_lex.specs.Tokens.{is_word};
-ghost use Rattle.sql_lex.specs.declared.tokens.Mark.TheVariants as m;
-ghost use Rattle.sql_print.specs.Pieces.{word, mark};
-ghost use Rattle.sql_print.specs.Printed.{or_is_wrapped as or_wrapped, and_is_wrapped as and_wrapped, op_mark, cond_pieces, members_pieces, in_parens, compare_pieces, between_pieces, list_pieces, like_pieces, value_pieces, behind_each, between_all};
+ghost use Rattle.sql_print.specs.Pieces.{word};
+ghost use Rattle.sql_print.specs.Printed.{or_is_wrapped as or_wrapped};
+ghost use Rattle.sql_print.specs.Printed.{and_is_wrapped as and_wrapped, op_mark, cond_pieces};
+ghost use Rattle.sql_print.specs.Printed.{members_pieces, joined_pieces, compare_pieces};
+ghost use Rattle.sql_print.specs.Printed.{between_pieces, list_pieces, like_pieces};
+ghost use Rattle.sql_print.specs.Printed.{value_pieces, behind_commas, between_commas};
 ghost use Rattle.sql_print.specs.Puts.{Puts};
 
 use crate::pieces::{put_expr, put_mark, put_not, put_text, put_value, put_word};
-use rpt_base::{Str, Value};
+use rpt_base::{Comparison, Memory, Str, Value};
 use sql_lex::Mark;
-use sql_text::{Cond, Expr, Op};
-use std::alloc::AllocError;
+use sql_text::{Cond, Expr};
 
 /// What a condition stands in.
 #[derive(Clone, Copy, Debug, PartialEq, Eq)]
@@ -43,22 +45,22 @@ fn and_is_wrapped(room: Room) -> bool
     }
 }
 
-fn mark_of(op: Op) -> Mark
+fn mark_of(op: Comparison) -> Mark
     ensures { result ≡ op_mark op }
 {
     match op {
-        Op::Eq => Mark::Eq,
-        Op::Ne => Mark::Ne,
-        Op::Lt => Mark::Lt,
-        Op::Le => Mark::Le,
-        Op::Gt => Mark::Gt,
-        Op::Ge => Mark::Ge,
+        Comparison::Eq => Mark::Eq,
+        Comparison::Ne => Mark::Ne,
+        Comparison::Lt => Mark::Lt,
+        Comparison::Le => Mark::Le,
+        Comparison::Gt => Mark::Gt,
+        Comparison::Ge => Mark::Ge,
     }
 }
 
 // The values behind the first.
-fn put_more_values(out: &mut Vec<u8>, values: &[Value]) -> Result<(), AllocError>
-    ensures { OnOk result (Puts (behind_each (mark m.Comma) value_pieces values.now) out.old.items out.new.items) }
+fn put_more_values(out: &mut Vec<u8>, values: &[Value]) -> Result<(), Memory>
+    ensures { OnOk result (Puts (behind_commas value_pieces values.now) out.old.items out.new.items) }
 {
     let mut rest = values;
     while let Some((next, behind)) = rest.split_first() {
@@ -69,8 +71,8 @@ fn put_more_values(out: &mut Vec<u8>, values: &[Value]) -> Result<(), AllocError
     Ok(())
 }
 
-fn put_values(out: &mut Vec<u8>, values: &[Value]) -> Result<(), AllocError>
-    ensures { OnOk result (Puts (between_all (mark m.Comma) value_pieces values.now) out.old.items out.new.items) }
+fn put_values(out: &mut Vec<u8>, values: &[Value]) -> Result<(), Memory>
+    ensures { OnOk result (Puts (between_commas value_pieces values.now) out.old.items out.new.items) }
 {
     match values.split_first() {
         Some((first, more)) => {
@@ -82,7 +84,7 @@ fn put_values(out: &mut Vec<u8>, values: &[Value]) -> Result<(), AllocError>
     }
 }
 
-fn put_compare(out: &mut Vec<u8>, op: Op, left: &Expr, right: &Expr) -> Result<(), AllocError>
+fn put_compare(out: &mut Vec<u8>, op: Comparison, left: &Expr, right: &Expr) -> Result<(), Memory>
     ensures { OnOk result (Puts (compare_pieces op left.now right.now) out.old.items out.new.items) }
 {
     put_expr(out, left)?;
@@ -97,7 +99,7 @@ fn put_between(
     negated: bool,
     low: &Expr,
     high: &Expr,
-) -> Result<(), AllocError>
+) -> Result<(), Memory>
     ensures { OnOk result (Puts (between_pieces operand.now negated low.now high.now) out.old.items out.new.items) }
 {
     put_expr(out, operand)?;
@@ -114,7 +116,7 @@ fn put_in_list(
     operand: &Expr,
     negated: bool,
     values: &[Value],
-) -> Result<(), AllocError>
+) -> Result<(), Memory>
     ensures { OnOk result (Puts (list_pieces operand.now negated values.now) out.old.items out.new.items) }
 {
     put_expr(out, operand)?;
@@ -126,12 +128,7 @@ fn put_in_list(
     Ok(())
 }
 
-fn put_like(
-    out: &mut Vec<u8>,
-    operand: &Expr,
-    negated: bool,
-    pattern: &Str,
-) -> Result<(), AllocError>
+fn put_like(out: &mut Vec<u8>, operand: &Expr, negated: bool, pattern: &Str) -> Result<(), Memory>
     ensures { OnOk result (Puts (like_pieces operand.now negated pattern.now) out.old.items out.new.items) }
 {
     put_expr(out, operand)?;
@@ -143,7 +140,7 @@ fn put_like(
 
 /// A condition, in parentheses where it needs them.
 #[cycle(put)]
-pub fn put_cond(out: &mut Vec<u8>, room: Room, cond: &Cond) -> Result<(), AllocError>
+pub fn put_cond(out: &mut Vec<u8>, room: Room, cond: &Cond) -> Result<(), Memory>
     ensures { OnOk result (Puts (cond_pieces cond.now room) out.old.items out.new.items) }
 {
     match cond {
@@ -196,9 +193,9 @@ fn put_joined(
     joining: &[u8],
     room: Room,
     members: &[Cond],
-) -> Result<(), AllocError>
+) -> Result<(), Memory>
     requires { IsTrue (is_word joining.now) }
-    ensures { OnOk result (Puts (in_parens wrapped (members_pieces (word joining.now) room members.now)) out.old.items out.new.items) }
+    ensures { OnOk result (Puts (joined_pieces wrapped joining.now room members.now) out.old.items out.new.items) }
 {
     if wrapped {
         put_mark(out, Mark::LeftParen)?;
@@ -216,7 +213,7 @@ fn put_members(
     joining: &[u8],
     room: Room,
     members: &[Cond],
-) -> Result<(), AllocError>
+) -> Result<(), Memory>
     requires { IsTrue (is_word joining.now) }
     ensures { OnOk result (Puts (members_pieces (word joining.now) room members.now) out.old.items out.new.items) }
 {

@@ -1,17 +1,17 @@
 // The pieces that a printed script is made of, put behind a text. A space follows each.
 ghost use Rattle.std.specs.Prelude.{◌≡◌, ◌≤◌, ◌++◌, ◌∷◌, ℕ, IsTrue, OnOk};
-ghost use Rattle.sql_lex.specs.Tokens.{is_word, doubled};
+ghost use Rattle.sql_lex.specs.Tokens.{is_word, doubled_quotes};
 ghost use Rattle.sql_print.specs.Pieces.{word, name, number, magnitude, text, mark, mark_text};
-ghost use Rattle.sql_print.specs.Printed.{int_pieces, value_pieces, relation_pieces, column_pieces, expr_pieces, not_pieces};
+ghost use Rattle.sql_print.specs.Printed.{int_pieces, value_pieces, relation_pieces};
+ghost use Rattle.sql_print.specs.Printed.{column_pieces, expr_pieces, not_pieces};
 ghost use Rattle.sql_print.specs.Puts.{Puts};
 
 use itoa::Buffer;
-use rpt_base::{Name, Str, Value};
+use rpt_base::{Memory, Name, Str, Value};
 use sql_lex::Mark;
 use sql_text::{ColumnName, Expr};
-use std::alloc::AllocError;
 
-fn put(out: &mut Vec<u8>, front: &[u8], middle: &[u8], back: &[u8]) -> Result<(), AllocError>
+fn put(out: &mut Vec<u8>, front: &[u8], middle: &[u8], back: &[u8]) -> Result<(), Memory>
     ensures { OnOk result (out.new.items ≡ out.old.items ++ front.now ++ middle.now ++ back.now) }
 {
     out.extend_from_slice(front)?;
@@ -21,7 +21,7 @@ fn put(out: &mut Vec<u8>, front: &[u8], middle: &[u8], back: &[u8]) -> Result<()
 }
 
 /// A keyword or a type, in capitals.
-pub fn put_word(out: &mut Vec<u8>, written: &[u8]) -> Result<(), AllocError>
+pub fn put_word(out: &mut Vec<u8>, written: &[u8]) -> Result<(), Memory>
     requires { IsTrue (is_word written.now) }
     ensures { OnOk result (Puts (λ more. word written.now ∷ more) out.old.items out.new.items) }
 {
@@ -30,7 +30,7 @@ pub fn put_word(out: &mut Vec<u8>, written: &[u8]) -> Result<(), AllocError>
 }
 
 /// A name in double quotes.
-pub fn put_name(out: &mut Vec<u8>, written: &Name) -> Result<(), AllocError>
+pub fn put_name(out: &mut Vec<u8>, written: &Name) -> Result<(), Memory>
     ensures { OnOk result (Puts (λ more. name written.now ∷ more) out.old.items out.new.items) }
 {
     put(out, b"\"", written.bytes(), b"\" ")?;
@@ -58,14 +58,14 @@ fn text_of(mark: Mark) -> &'static [u8]
 }
 
 /// A mark.
-pub fn put_mark(out: &mut Vec<u8>, written: Mark) -> Result<(), AllocError>
+pub fn put_mark(out: &mut Vec<u8>, written: Mark) -> Result<(), Memory>
     ensures { OnOk result (Puts (λ more. mark written ∷ more) out.old.items out.new.items) }
 {
     put(out, b"", text_of(written), b" ")?;
     Ok(())
 }
 
-fn put_number(out: &mut Vec<u8>, written: u64) -> Result<(), AllocError>
+fn put_number(out: &mut Vec<u8>, written: u64) -> Result<(), Memory>
     requires { written ≤ 9223372036854775807 }
     ensures { OnOk result (Puts (λ more. number written ∷ more) out.old.items out.new.items) }
 {
@@ -74,7 +74,7 @@ fn put_number(out: &mut Vec<u8>, written: u64) -> Result<(), AllocError>
     Ok(())
 }
 
-fn put_magnitude(out: &mut Vec<u8>, written: u64) -> Result<(), AllocError>
+fn put_magnitude(out: &mut Vec<u8>, written: u64) -> Result<(), Memory>
     requires { written ≤ 9223372036854775808 }
     ensures { OnOk result (Puts (λ more. magnitude written ∷ more) out.old.items out.new.items) }
 {
@@ -84,8 +84,8 @@ fn put_magnitude(out: &mut Vec<u8>, written: u64) -> Result<(), AllocError>
 }
 
 // A text with each quote doubled.
-fn put_doubled(out: &mut Vec<u8>, written: &[u8]) -> Result<(), AllocError>
-    ensures { OnOk result (out.new.items ≡ out.old.items ++ doubled written.now) }
+fn put_doubled(out: &mut Vec<u8>, written: &[u8]) -> Result<(), Memory>
+    ensures { OnOk result (out.new.items ≡ out.old.items ++ doubled_quotes written.now) }
 {
     let mut rest = written;
     while let Some((first, behind)) = rest.split_first() {
@@ -100,7 +100,7 @@ fn put_doubled(out: &mut Vec<u8>, written: &[u8]) -> Result<(), AllocError>
 }
 
 /// A text in quotes.
-pub fn put_text(out: &mut Vec<u8>, written: &Str) -> Result<(), AllocError>
+pub fn put_text(out: &mut Vec<u8>, written: &Str) -> Result<(), Memory>
     ensures { OnOk result (Puts (λ more. text written.now ∷ more) out.old.items out.new.items) }
 {
     put(out, b"'", b"", b"")?;
@@ -109,7 +109,7 @@ pub fn put_text(out: &mut Vec<u8>, written: &Str) -> Result<(), AllocError>
     Ok(())
 }
 
-fn put_int(out: &mut Vec<u8>, written: i64) -> Result<(), AllocError>
+fn put_int(out: &mut Vec<u8>, written: i64) -> Result<(), Memory>
     ensures { OnOk result (Puts (int_pieces written) out.old.items out.new.items) }
 {
     if written >= 0 {
@@ -122,7 +122,7 @@ fn put_int(out: &mut Vec<u8>, written: i64) -> Result<(), AllocError>
 }
 
 /// A value.
-pub fn put_value(out: &mut Vec<u8>, value: &Value) -> Result<(), AllocError>
+pub fn put_value(out: &mut Vec<u8>, value: &Value) -> Result<(), Memory>
     ensures { OnOk result (Puts (value_pieces value.now) out.old.items out.new.items) }
 {
     match value {
@@ -137,7 +137,7 @@ pub fn put_value(out: &mut Vec<u8>, value: &Value) -> Result<(), AllocError>
     }
 }
 
-fn put_relation(out: &mut Vec<u8>, relation: &Option<Name>) -> Result<(), AllocError>
+fn put_relation(out: &mut Vec<u8>, relation: &Option<Name>) -> Result<(), Memory>
     ensures { OnOk result (Puts (relation_pieces relation.now) out.old.items out.new.items) }
 {
     match relation {
@@ -151,7 +151,7 @@ fn put_relation(out: &mut Vec<u8>, relation: &Option<Name>) -> Result<(), AllocE
 }
 
 /// A column.
-pub fn put_column(out: &mut Vec<u8>, column: &ColumnName) -> Result<(), AllocError>
+pub fn put_column(out: &mut Vec<u8>, column: &ColumnName) -> Result<(), Memory>
     ensures { OnOk result (Puts (column_pieces column.now) out.old.items out.new.items) }
 {
     put_relation(out, &column.relation)?;
@@ -160,7 +160,7 @@ pub fn put_column(out: &mut Vec<u8>, column: &ColumnName) -> Result<(), AllocErr
 }
 
 /// An operand.
-pub fn put_expr(out: &mut Vec<u8>, expr: &Expr) -> Result<(), AllocError>
+pub fn put_expr(out: &mut Vec<u8>, expr: &Expr) -> Result<(), Memory>
     ensures { OnOk result (Puts (expr_pieces expr.now) out.old.items out.new.items) }
 {
     match expr {
@@ -176,7 +176,7 @@ pub fn put_expr(out: &mut Vec<u8>, expr: &Expr) -> Result<(), AllocError>
 }
 
 /// NOT, where something is negated.
-pub fn put_not(out: &mut Vec<u8>, negated: bool) -> Result<(), AllocError>
+pub fn put_not(out: &mut Vec<u8>, negated: bool) -> Result<(), Memory>
     ensures { OnOk result (Puts (not_pieces negated) out.old.items out.new.items) }
 {
     if negated {

@@ -1,12 +1,16 @@
 // Printed scripts.
 ghost use Rattle.std.specs.Prelude.{◌≡◌, ◌≤◌, ◌∷◌, ℕ, List, OnOk, IfOk};
-ghost use Rattle.sql_lex.specs.declared.tokens.Mark.TheVariants as m;
+ghost use Rattle.rpt_base.specs.declared.limits.TheConstants.{MAX_LEVELS};
 ghost use Rattle.sql_lex.specs.declared.tokens.Token.{Token};
 ghost use Rattle.sql_grammar.specs.declared.tree.Script.{Script as Tree};
 ghost use Rattle.sql_grammar.specs.Formed.{IsWellFormed};
 ghost use Rattle.sql_grammar.specs.Sentence.{IsSentence};
-ghost use Rattle.sql_print.specs.Pieces.{mark, word};
-ghost use Rattle.sql_print.specs.Printed.{title_pieces, item_pieces, items_pieces, alias_pieces, factor_pieces, next_source, next_sources, sources_pieces, filter_pieces, select_pieces, type_word, declared_pieces, table_pieces, tables_pieces, script_pieces, printed, script_levels, behind_each, between_all};
+ghost use Rattle.sql_print.specs.Pieces.{word};
+ghost use Rattle.sql_print.specs.Printed.{title_pieces, item_pieces, items_pieces, alias_pieces};
+ghost use Rattle.sql_print.specs.Printed.{factor_pieces, next_source, next_sources, sources_pieces};
+ghost use Rattle.sql_print.specs.Printed.{filter_pieces, select_pieces, type_word, declared_pieces};
+ghost use Rattle.sql_print.specs.Printed.{table_pieces, tables_pieces, script_pieces, printed_text};
+ghost use Rattle.sql_print.specs.Printed.{script_levels, behind_commas, between_commas};
 ghost use Rattle.sql_print.specs.Puts.{Puts, IsShown};
 ghost use Rattle.sql_print.specs.Unplaced.{IsReadBack};
 
@@ -15,9 +19,9 @@ use crate::pieces::{put_column, put_mark, put_name, put_word};
 use rpt_base::{ColumnType, Memory, Name};
 use sql_lex::{Mark, tokens_are_read};
 use sql_text::{Alias, ColumnItem, Cond, CreateTable, Item, Items, Script, Select, Source};
-use std::alloc::{AllocError, Global};
+use std::alloc::Global;
 
-fn put_title(out: &mut Vec<u8>, title: &Option<Name>) -> Result<(), AllocError>
+fn put_title(out: &mut Vec<u8>, title: &Option<Name>) -> Result<(), Memory>
     ensures { OnOk result (Puts (title_pieces title.now) out.old.items out.new.items) }
 {
     match title {
@@ -30,7 +34,7 @@ fn put_title(out: &mut Vec<u8>, title: &Option<Name>) -> Result<(), AllocError>
     }
 }
 
-fn put_item(out: &mut Vec<u8>, item: &Item) -> Result<(), AllocError>
+fn put_item(out: &mut Vec<u8>, item: &Item) -> Result<(), Memory>
     ensures { OnOk result (Puts (item_pieces item.now) out.old.items out.new.items) }
 {
     put_column(out, &item.column)?;
@@ -39,8 +43,8 @@ fn put_item(out: &mut Vec<u8>, item: &Item) -> Result<(), AllocError>
 }
 
 // The items behind the first.
-fn put_more_items(out: &mut Vec<u8>, items: &[Item]) -> Result<(), AllocError>
-    ensures { OnOk result (Puts (behind_each (mark m.Comma) item_pieces items.now) out.old.items out.new.items) }
+fn put_more_items(out: &mut Vec<u8>, items: &[Item]) -> Result<(), Memory>
+    ensures { OnOk result (Puts (behind_commas item_pieces items.now) out.old.items out.new.items) }
 {
     let mut rest = items;
     while let Some((next, behind)) = rest.split_first() {
@@ -51,7 +55,7 @@ fn put_more_items(out: &mut Vec<u8>, items: &[Item]) -> Result<(), AllocError>
     Ok(())
 }
 
-fn put_items(out: &mut Vec<u8>, items: &Items) -> Result<(), AllocError>
+fn put_items(out: &mut Vec<u8>, items: &Items) -> Result<(), Memory>
     ensures { OnOk result (Puts (items_pieces items.now) out.old.items out.new.items) }
 {
     match items {
@@ -70,7 +74,7 @@ fn put_items(out: &mut Vec<u8>, items: &Items) -> Result<(), AllocError>
     }
 }
 
-fn put_alias(out: &mut Vec<u8>, alias: &Option<Alias>) -> Result<(), AllocError>
+fn put_alias(out: &mut Vec<u8>, alias: &Option<Alias>) -> Result<(), Memory>
     ensures { OnOk result (Puts (alias_pieces alias.now) out.old.items out.new.items) }
 {
     match alias {
@@ -83,7 +87,7 @@ fn put_alias(out: &mut Vec<u8>, alias: &Option<Alias>) -> Result<(), AllocError>
     }
 }
 
-fn put_factor(out: &mut Vec<u8>, source: &Source) -> Result<(), AllocError>
+fn put_factor(out: &mut Vec<u8>, source: &Source) -> Result<(), Memory>
     ensures { OnOk result (Puts (factor_pieces source.now) out.old.items out.new.items) }
 {
     put_name(out, &source.table)?;
@@ -92,7 +96,7 @@ fn put_factor(out: &mut Vec<u8>, source: &Source) -> Result<(), AllocError>
 }
 
 // A source behind the first: behind a comma, or joined.
-fn put_next_source(out: &mut Vec<u8>, source: &Source) -> Result<(), AllocError>
+fn put_next_source(out: &mut Vec<u8>, source: &Source) -> Result<(), Memory>
     ensures { OnOk result (Puts (next_source source.now.on source.now) out.old.items out.new.items) }
 {
     match &source.on {
@@ -111,7 +115,7 @@ fn put_next_source(out: &mut Vec<u8>, source: &Source) -> Result<(), AllocError>
     }
 }
 
-fn put_next_sources(out: &mut Vec<u8>, sources: &[Source]) -> Result<(), AllocError>
+fn put_next_sources(out: &mut Vec<u8>, sources: &[Source]) -> Result<(), Memory>
     ensures { OnOk result (Puts (next_sources sources.now) out.old.items out.new.items) }
 {
     let mut rest = sources;
@@ -122,7 +126,7 @@ fn put_next_sources(out: &mut Vec<u8>, sources: &[Source]) -> Result<(), AllocEr
     Ok(())
 }
 
-fn put_sources(out: &mut Vec<u8>, sources: &[Source]) -> Result<(), AllocError>
+fn put_sources(out: &mut Vec<u8>, sources: &[Source]) -> Result<(), Memory>
     ensures { OnOk result (Puts (sources_pieces sources.now) out.old.items out.new.items) }
 {
     match sources.split_first() {
@@ -135,7 +139,7 @@ fn put_sources(out: &mut Vec<u8>, sources: &[Source]) -> Result<(), AllocError>
     }
 }
 
-fn put_filter(out: &mut Vec<u8>, filter: &Option<Cond>) -> Result<(), AllocError>
+fn put_filter(out: &mut Vec<u8>, filter: &Option<Cond>) -> Result<(), Memory>
     ensures { OnOk result (Puts (filter_pieces filter.now) out.old.items out.new.items) }
 {
     match filter {
@@ -148,7 +152,7 @@ fn put_filter(out: &mut Vec<u8>, filter: &Option<Cond>) -> Result<(), AllocError
     }
 }
 
-fn put_select(out: &mut Vec<u8>, select: &Select) -> Result<(), AllocError>
+fn put_select(out: &mut Vec<u8>, select: &Select) -> Result<(), Memory>
     ensures { OnOk result (Puts (select_pieces select.now) out.old.items out.new.items) }
 {
     put_word(out, b"SELECT")?;
@@ -159,7 +163,7 @@ fn put_select(out: &mut Vec<u8>, select: &Select) -> Result<(), AllocError>
     Ok(())
 }
 
-fn put_type(out: &mut Vec<u8>, kind: ColumnType) -> Result<(), AllocError>
+fn put_type(out: &mut Vec<u8>, kind: ColumnType) -> Result<(), Memory>
     ensures { OnOk result (Puts (λ more. word (type_word kind) ∷ more) out.old.items out.new.items) }
 {
     match kind {
@@ -174,7 +178,7 @@ fn put_type(out: &mut Vec<u8>, kind: ColumnType) -> Result<(), AllocError>
     }
 }
 
-fn put_declared(out: &mut Vec<u8>, column: &ColumnItem) -> Result<(), AllocError>
+fn put_declared(out: &mut Vec<u8>, column: &ColumnItem) -> Result<(), Memory>
     ensures { OnOk result (Puts (declared_pieces column.now) out.old.items out.new.items) }
 {
     put_name(out, &column.name)?;
@@ -183,8 +187,8 @@ fn put_declared(out: &mut Vec<u8>, column: &ColumnItem) -> Result<(), AllocError
 }
 
 // The columns behind the first.
-fn put_more_columns(out: &mut Vec<u8>, columns: &[ColumnItem]) -> Result<(), AllocError>
-    ensures { OnOk result (Puts (behind_each (mark m.Comma) declared_pieces columns.now) out.old.items out.new.items) }
+fn put_more_columns(out: &mut Vec<u8>, columns: &[ColumnItem]) -> Result<(), Memory>
+    ensures { OnOk result (Puts (behind_commas declared_pieces columns.now) out.old.items out.new.items) }
 {
     let mut rest = columns;
     while let Some((next, behind)) = rest.split_first() {
@@ -195,8 +199,8 @@ fn put_more_columns(out: &mut Vec<u8>, columns: &[ColumnItem]) -> Result<(), All
     Ok(())
 }
 
-fn put_columns(out: &mut Vec<u8>, columns: &[ColumnItem]) -> Result<(), AllocError>
-    ensures { OnOk result (Puts (between_all (mark m.Comma) declared_pieces columns.now) out.old.items out.new.items) }
+fn put_columns(out: &mut Vec<u8>, columns: &[ColumnItem]) -> Result<(), Memory>
+    ensures { OnOk result (Puts (between_commas declared_pieces columns.now) out.old.items out.new.items) }
 {
     match columns.split_first() {
         Some((first, more)) => {
@@ -208,7 +212,7 @@ fn put_columns(out: &mut Vec<u8>, columns: &[ColumnItem]) -> Result<(), AllocErr
     }
 }
 
-fn put_table(out: &mut Vec<u8>, table: &CreateTable) -> Result<(), AllocError>
+fn put_table(out: &mut Vec<u8>, table: &CreateTable) -> Result<(), Memory>
     ensures { OnOk result (Puts (table_pieces table.now) out.old.items out.new.items) }
 {
     put_word(out, b"CREATE")?;
@@ -221,7 +225,7 @@ fn put_table(out: &mut Vec<u8>, table: &CreateTable) -> Result<(), AllocError>
     Ok(())
 }
 
-fn put_tables(out: &mut Vec<u8>, tables: &[CreateTable]) -> Result<(), AllocError>
+fn put_tables(out: &mut Vec<u8>, tables: &[CreateTable]) -> Result<(), Memory>
     ensures { OnOk result (Puts (tables_pieces tables.now) out.old.items out.new.items) }
 {
     let mut rest = tables;
@@ -232,7 +236,7 @@ fn put_tables(out: &mut Vec<u8>, tables: &[CreateTable]) -> Result<(), AllocErro
     Ok(())
 }
 
-fn put_script(out: &mut Vec<u8>, script: &Script) -> Result<(), AllocError>
+fn put_script(out: &mut Vec<u8>, script: &Script) -> Result<(), Memory>
     ensures { OnOk result (Puts (script_pieces script.now) out.old.items out.new.items) }
 {
     put_tables(out, script.tables.as_slice())?;
@@ -241,7 +245,7 @@ fn put_script(out: &mut Vec<u8>, script: &Script) -> Result<(), AllocError>
 }
 
 // The printed text, as far as it is got to.
-fn text_of(alloc: Global, script: &Script) -> Result<Vec<u8>, AllocError>
+fn text_of(alloc: Global, script: &Script) -> Result<Vec<u8>, Memory>
     ensures { IfOk result (λ text. IsShown script.now text.items) }
 {
     let mut out = Vec::new(alloc);
@@ -262,13 +266,10 @@ pub fn read_scripts_print()
 /// alias and title, parentheses only where they are needed, and a semicolon at the end.
 pub fn print(alloc: Global, script: &Script) -> Result<Vec<u8>, Memory>
     requires well_formed { IsWellFormed script.now }
-    requires levels { script_levels script.now ≤ 64 }
-    ensures form { IfOk result (λ text. text.items ≡ printed script.now) }
+    requires levels { script_levels script.now ≤ MAX_LEVELS }
+    ensures form { IfOk result (λ text. text.items ≡ printed_text script.now) }
     ensures reads_back { IfOk result (λ text. IsReadBack script.now text.items) }
 {
     tokens_are_read();
-    match text_of(alloc, script) {
-        Ok(text) => Ok(text),
-        Err(_) => Err(Memory),
-    }
+    text_of(alloc, script)
 }

@@ -1,7 +1,7 @@
 // Conditions. A parenthesis and a NOT open a level each; the conditions that OR and AND join are read by loops.
 ghost use Rattle.std.specs.Prelude.{◌≡◌, ◌∷◌, List};
-ghost use Rattle.sql_grammar.specs.Meaning.{cond_of, conj_of, neg_of, prim_of, joined};
-ghost use Rattle.sql_grammar.specs.Reading.{Gives};
+ghost use Rattle.sql_grammar.specs.Meaning.{cond_of, conj_of, neg_of, prim_of, joined_conditions};
+ghost use Rattle.sql_grammar.specs.Reading.{ParsesWithin};
 
 use sql_grammar::{Cond, Kind, ParseError, after, appended, first_is, followed, test};
 use sql_lex::Token;
@@ -10,7 +10,7 @@ use std::alloc::Global;
 
 // One alone is itself.
 fn all_of(mut found: Vec<Cond>) -> Cond
-    ensures { (first : Cond) (more : List Cond) → found.items ≡ first ∷ more → result ≡ joined Cond.And first more }
+    ensures { (first : Cond) (more : List Cond) → found.items ≡ first ∷ more → result ≡ joined_conditions Cond.And first more }
 {
     if found.len() > 1 {
         return Cond::And(Members::from_vec(found));
@@ -23,7 +23,7 @@ fn all_of(mut found: Vec<Cond>) -> Cond
 
 // One alone is itself.
 fn any_of(mut found: Vec<Cond>) -> Cond
-    ensures { (first : Cond) (more : List Cond) → found.items ≡ first ∷ more → result ≡ joined Cond.Or first more }
+    ensures { (first : Cond) (more : List Cond) → found.items ≡ first ∷ more → result ≡ joined_conditions Cond.Or first more }
 {
     if found.len() > 1 {
         return Cond::Or(Members::from_vec(found));
@@ -42,7 +42,7 @@ pub fn cond(
     end: u32,
     levels: u32,
 ) -> Result<(Cond, &[Token]), ParseError>
-    ensures { Gives cond_of (λ found. found.0) (λ found. found.1.now) levels tokens.now end result }
+    ensures { ParsesWithin levels cond_of tokens.now end result }
 {
     let mut found = Vec::new(alloc);
     let mut rest = tokens;
@@ -63,7 +63,7 @@ fn conj(
     end: u32,
     levels: u32,
 ) -> Result<(Cond, &[Token]), ParseError>
-    ensures { Gives conj_of (λ found. found.0) (λ found. found.1.now) levels tokens.now end result }
+    ensures { ParsesWithin levels conj_of tokens.now end result }
 {
     let mut found = Vec::new(alloc);
     let mut rest = tokens;
@@ -84,7 +84,7 @@ fn neg(
     end: u32,
     levels: u32,
 ) -> Result<(Cond, &[Token]), ParseError>
-    ensures { Gives neg_of (λ found. found.0) (λ found. found.1.now) levels tokens.now end result }
+    ensures { ParsesWithin levels neg_of tokens.now end result }
 {
     match first_is(tokens, Kind::Not) {
         Some((token, rest)) => {
@@ -112,7 +112,7 @@ fn prim(
     end: u32,
     levels: u32,
 ) -> Result<(Cond, &[Token]), ParseError>
-    ensures { Gives prim_of (λ found. found.0) (λ found. found.1.now) levels tokens.now end result }
+    ensures { ParsesWithin levels prim_of tokens.now end result }
 {
     match first_is(tokens, Kind::LeftParen) {
         Some((token, rest)) => {

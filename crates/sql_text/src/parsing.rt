@@ -1,14 +1,16 @@
 // A script: what it declares, and what it selects.
-ghost use Rattle.std.specs.Prelude.{◌≡◌, ◌⊎◌, ℕ, length, IfOk, IfErr, Result, Err};
-ghost use Rattle.sql_grammar.specs.declared.tree.Script.{Script as Tree};
-ghost use Rattle.sql_grammar.specs.declared.errors.ParseError.{ParseError as Error};
-ghost use Rattle.sql_grammar.specs.Meaning.{column_of, column_list_of, create_of, creates_of, script_of};
+ghost use Rattle.std.specs.Prelude.{◌≡◌, ℕ, length, IfOk, IfErr, Err};
+ghost use Rattle.rpt_base.specs.declared.limits.TheConstants.{MAX_LEVELS};
+ghost use Rattle.sql_grammar.specs.Meaning.{column_of, column_list_of};
+ghost use Rattle.sql_grammar.specs.Meaning.{create_of, creates_of, script_of};
 ghost use Rattle.sql_grammar.specs.Formed.{IsWellFormed};
-ghost use Rattle.sql_grammar.specs.Reading.{Gives};
-ghost use Rattle.sql_grammar.specs.Sentence.{IsSentence, IsSyntaxError, IsTooDeep, IsReading, place};
+ghost use Rattle.sql_grammar.specs.Reading.{Parses, ParsesWithin};
+ghost use Rattle.sql_grammar.specs.Sentence.{IsSentence, IsSyntaxError};
+ghost use Rattle.sql_grammar.specs.Sentence.{IsTooDeep, IsOnlyReading, place};
 
 use crate::sources::select;
 use rpt_base::Listed;
+use rpt_base::limits::MAX_LEVELS;
 use sql_grammar::{
     ColumnItem, CreateTable, Kind, ParseError, Script, after, appended, begins_with, column_type,
     expect, followed, name, paired, passes, place_of,
@@ -16,11 +18,8 @@ use sql_grammar::{
 use sql_lex::Token;
 use std::alloc::Global;
 
-// How many levels may be open.
-const MAX_LEVELS: u32 = 64;
-
 fn column(alloc: Global, tokens: &[Token], end: u32) -> Result<(ColumnItem, &[Token]), ParseError>
-    ensures { (n : ℕ) → Gives column_of (λ found. found.0) (λ found. found.1.now) n tokens.now end result }
+    ensures { Parses column_of tokens.now end result }
 {
     let (column, rest) = name(alloc, tokens, end)?;
     let (kind, rest) = column_type(rest, end)?;
@@ -39,7 +38,7 @@ fn columns(
     tokens: &[Token],
     end: u32,
 ) -> Result<(Listed<ColumnItem>, &[Token]), ParseError>
-    ensures { (n : ℕ) → Gives column_list_of (λ found. found.0) (λ found. found.1.now) n tokens.now end result }
+    ensures { Parses column_list_of tokens.now end result }
 {
     let mut found = Vec::new(alloc);
     let mut rest = tokens;
@@ -54,7 +53,7 @@ fn columns(
 }
 
 fn create(alloc: Global, tokens: &[Token], end: u32) -> Result<(CreateTable, &[Token]), ParseError>
-    ensures { (n : ℕ) → Gives create_of (λ found. found.0) (λ found. found.1.now) n tokens.now end result }
+    ensures { Parses create_of tokens.now end result }
 {
     let rest = expect(tokens, end, Kind::Create)?;
     let rest = expect(rest, end, Kind::Table)?;
@@ -79,7 +78,7 @@ fn creates(
     tokens: &[Token],
     end: u32,
 ) -> Result<(Listed<CreateTable>, &[Token]), ParseError>
-    ensures { (n : ℕ) → Gives creates_of (λ found. found.0) (λ found. found.1.now) n tokens.now end result }
+    ensures { Parses creates_of tokens.now end result }
 {
     let mut found = Vec::new(alloc);
     let mut rest = tokens;
@@ -98,7 +97,7 @@ fn script(
     end: u32,
     levels: u32,
 ) -> Result<(Script, &[Token]), ParseError>
-    ensures { Gives script_of (λ found. found.0) (λ found. found.1.now) levels tokens.now end result }
+    ensures { ParsesWithin levels script_of tokens.now end result }
 {
     let (tables, rest) = creates(alloc, tokens, end)?;
     let (select, rest) = select(alloc, rest, end, levels)?;
@@ -126,11 +125,11 @@ fn alone<T: Drop>(found: T, rest: &[Token], end: u32) -> Result<T, ParseError>
 /// `TooDeep` is at the token that opens a 65th level, where no `Syntax` comes before it. A level is opened by a parenthesis
 /// that begins a condition, up to the one that closes it, and by a NOT, up to the end of what it negates.
 pub fn parse(alloc: Global, tokens: &[Token], end: u32) -> Result<Script, ParseError>
-    ensures ok { IfOk result (λ script. IsSentence 64 tokens.now script) }
-    ensures syntax { (at : ℕ) → result ≡ Err (ParseError.Syntax at) → IsSyntaxError 64 tokens.now end at }
-    ensures too_deep { (at : ℕ) → result ≡ Err (ParseError.TooDeep at) → IsTooDeep 64 tokens.now at }
+    ensures ok { IfOk result (λ script. IsSentence MAX_LEVELS tokens.now script) }
+    ensures syntax { (at : ℕ) → result ≡ Err (ParseError.Syntax at) → IsSyntaxError MAX_LEVELS tokens.now end at }
+    ensures too_deep { (at : ℕ) → result ≡ Err (ParseError.TooDeep at) → IsTooDeep MAX_LEVELS tokens.now at }
     ensures well_formed { IfOk result (λ script. IsWellFormed script) }
-    ensures only { (said : Result Tree Error) → IsReading 64 tokens.now end said → (result ≡ Err ParseError.Memory) ⊎ (result ≡ said) }
+    ensures only { IsOnlyReading MAX_LEVELS tokens.now end result }
 {
     let (script, rest) = script(alloc, tokens, end, MAX_LEVELS)?;
     alone(script, rest, end)

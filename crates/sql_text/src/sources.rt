@@ -1,9 +1,12 @@
 // What is selected, and from where.
-ghost use Rattle.std.specs.Prelude.{◌≡◌, ℕ, IsTrue, ◌↔◌, [], ◌∷◌, ◌++◌};
+ghost use Rattle.std.specs.Prelude.{◌≡◌, ℕ, IsTrue, ◌↔◌, [], ◌∷◌};
 ghost use Rattle.sql_grammar.specs.declared.kinds.Kind.TheVariants as kind;
 ghost use Rattle.sql_grammar.specs.Kinds.{code};
-ghost use Rattle.sql_grammar.specs.Meaning.{alias_of, title_of as title_said, item_of, item_list_of, items_of, factor_of, unjoined, joined_on, join_of, joins_of, source_list_of, source_of, filter_of, select_of};
-ghost use Rattle.sql_grammar.specs.Reading.{Gives, Heads};
+ghost use Rattle.sql_grammar.specs.Meaning.{alias_of, title_of as title_said, item_of};
+ghost use Rattle.sql_grammar.specs.Meaning.{item_list_of, items_of, factor_of};
+ghost use Rattle.sql_grammar.specs.Meaning.{unjoined_source, joined_source, join_of, joins_of};
+ghost use Rattle.sql_grammar.specs.Meaning.{source_list_of, source_of, filter_of, select_of};
+ghost use Rattle.sql_grammar.specs.Reading.{Gives, Parses, ParsesBehind, ParsesWithin, Heads};
 
 use crate::conditions::cond;
 use rpt_base::{Listed, Name};
@@ -16,7 +19,7 @@ use std::alloc::Global;
 
 // `[ [ AS ] name ]`
 fn alias(alloc: Global, tokens: &[Token], end: u32) -> Result<(Option<Alias>, &[Token]), ParseError>
-    ensures { (n : ℕ) → Gives alias_of (λ found. found.0) (λ found. found.1.now) n tokens.now end result }
+    ensures { Parses alias_of tokens.now end result }
 {
     if let Some(rest) = after(tokens, Kind::As) {
         let (alias, rest) = name(alloc, rest, end)?;
@@ -39,7 +42,7 @@ fn title_of(alias: Option<Alias>) -> Option<Name>
 }
 
 fn item(alloc: Global, tokens: &[Token], end: u32) -> Result<(Item, &[Token]), ParseError>
-    ensures { (n : ℕ) → Gives item_of (λ found. found.0) (λ found. found.1.now) n tokens.now end result }
+    ensures { Parses item_of tokens.now end result }
 {
     let (column, rest) = colref(alloc, tokens, end)?;
     let (alias, rest) = alias(alloc, rest, end)?;
@@ -57,7 +60,7 @@ fn item_list(
     tokens: &[Token],
     end: u32,
 ) -> Result<(Listed<Item>, &[Token]), ParseError>
-    ensures { (n : ℕ) → Gives item_list_of (λ found. found.0) (λ found. found.1.now) n tokens.now end result }
+    ensures { Parses item_list_of tokens.now end result }
 {
     let mut found = Vec::new(alloc);
     let mut rest = tokens;
@@ -72,7 +75,7 @@ fn item_list(
 }
 
 fn items(alloc: Global, tokens: &[Token], end: u32) -> Result<(Items, &[Token]), ParseError>
-    ensures { (n : ℕ) → Gives items_of (λ found. found.0) (λ found. found.1.now) n tokens.now end result }
+    ensures { Parses items_of tokens.now end result }
 {
     match after(tokens, Kind::Star) {
         Some(rest) => Ok((Items::Star, rest)),
@@ -89,7 +92,7 @@ fn table_of(
     tokens: &[Token],
     end: u32,
 ) -> Result<((Alias, Option<Alias>), &[Token]), ParseError>
-    ensures { (n : ℕ) → Gives factor_of (λ found. unjoined found.0.0 found.0.1) (λ found. found.1.now) n tokens.now end result }
+    ensures { (n : ℕ) → Gives factor_of (λ found. unjoined_source found.0.0 found.0.1) (λ found. found.1.now) n tokens.now end result }
 {
     let (table, rest) = name(alloc, tokens, end)?;
     paired(table, alias(alloc, rest, end))
@@ -97,7 +100,7 @@ fn table_of(
 
 // A table that is joined to none before it.
 fn unjoined(table: Alias, alias: Option<Alias>) -> Source
-    ensures { result ≡ unjoined table alias }
+    ensures { result ≡ unjoined_source table alias }
 {
     Source {
         at: table.at,
@@ -109,7 +112,7 @@ fn unjoined(table: Alias, alias: Option<Alias>) -> Source
 
 // A table with its alias, not yet joined to others.
 fn factor(alloc: Global, tokens: &[Token], end: u32) -> Result<(Source, &[Token]), ParseError>
-    ensures { (n : ℕ) → Gives factor_of (λ found. found.0) (λ found. found.1.now) n tokens.now end result }
+    ensures { Parses factor_of tokens.now end result }
 {
     let ((table, alias), rest) = table_of(alloc, tokens, end)?;
     Ok((unjoined(table, alias), rest))
@@ -117,7 +120,7 @@ fn factor(alloc: Global, tokens: &[Token], end: u32) -> Result<(Source, &[Token]
 
 // A table that is joined to those before it.
 fn joined(table: Alias, alias: Option<Alias>, on: Cond) -> Source
-    ensures { result ≡ joined_on (unjoined table alias) on }
+    ensures { result ≡ joined_source (unjoined_source table alias) on }
 {
     Source {
         at: table.at,
@@ -134,7 +137,7 @@ fn join(
     end: u32,
     levels: u32,
 ) -> Result<(Source, &[Token]), ParseError>
-    ensures { Gives join_of (λ found. found.0) (λ found. found.1.now) levels tokens.now end result }
+    ensures { ParsesWithin levels join_of tokens.now end result }
 {
     let (_, rest) = passes(tokens, Kind::Inner);
     let rest = expect(rest, end, Kind::Join)?;
@@ -158,7 +161,7 @@ fn joins(
     end: u32,
     levels: u32,
 ) -> Result<(Vec<Source>, &[Token]), ParseError>
-    ensures { Gives (λ more. found.items ++ joins_of more) (λ all. all.0.items) (λ all. all.1.now) levels tokens.now end result }
+    ensures { ParsesBehind levels found.items joins_of tokens.now end result }
 {
     let mut rest = tokens;
     while begins_join(rest) {
@@ -177,7 +180,7 @@ fn source(
     end: u32,
     levels: u32,
 ) -> Result<(Vec<Source>, &[Token]), ParseError>
-    ensures { Gives (λ more. found.items ++ source_of more) (λ all. all.0.items) (λ all. all.1.now) levels tokens.now end result }
+    ensures { ParsesBehind levels found.items source_of tokens.now end result }
 {
     let (found, rest) = appended(found, factor(alloc, tokens, end))?;
     joins(found, alloc, rest, end, levels)
@@ -189,7 +192,7 @@ fn sources(
     end: u32,
     levels: u32,
 ) -> Result<(Listed<Source>, &[Token]), ParseError>
-    ensures { Gives source_list_of (λ found. found.0) (λ found. found.1.now) levels tokens.now end result }
+    ensures { ParsesWithin levels source_list_of tokens.now end result }
 {
     let mut found = Vec::new(alloc);
     let mut rest = tokens;
@@ -210,7 +213,7 @@ fn filter(
     end: u32,
     levels: u32,
 ) -> Result<(Option<Cond>, &[Token]), ParseError>
-    ensures { Gives filter_of (λ found. found.0) (λ found. found.1.now) levels tokens.now end result }
+    ensures { ParsesWithin levels filter_of tokens.now end result }
 {
     match after(tokens, Kind::Where) {
         Some(rest) => {
@@ -228,7 +231,7 @@ pub fn select(
     end: u32,
     levels: u32,
 ) -> Result<(Select, &[Token]), ParseError>
-    ensures { Gives select_of (λ found. found.0) (λ found. found.1.now) levels tokens.now end result }
+    ensures { ParsesWithin levels select_of tokens.now end result }
 {
     let rest = expect(tokens, end, Kind::Select)?;
     let (items, rest) = items(alloc, rest, end)?;

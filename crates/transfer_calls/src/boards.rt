@@ -48,10 +48,14 @@ fn sealed_text<R: Threads + Sync>(
     if !valid(&plan) || !are_workers(workers) {
         return Err(CaseError::Range);
     }
-    let run = run_of(rt, alloc, plan, workers)?;
-    let sealed = run.sealed();
-    let text = format!(in alloc; "{sealed:?}\n")?;
-    Ok(text)
+    text_of(alloc, run_of(rt, alloc, plan, workers)?)
+}
+
+// The run goes with the call and is dropped in one: held where a function branches, it makes the proof much larger.
+fn text_of(alloc: Global, run: TransferRun) -> Result<String, CaseError> {
+    let text = format!(in alloc; "{:?}\n", run.sealed());
+    drop(run);
+    Ok(text?)
 }
 
 /// The run of a plan by so many workers.

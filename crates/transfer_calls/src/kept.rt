@@ -7,9 +7,10 @@ use crate::parts::planned;
 use crate::trees::Parts;
 use case_text::{CaseError, put};
 use rpt_base::limits::are_workers;
+use rpt_engine::AnyPlace;
 use std::alloc::Global;
 use std::thread::Threads;
-use transfer_core::Port;
+use transfer_core::{Plan, Port};
 use transfer_pass::TransferRun;
 
 /// Puts the words of a plan's regions, and each pipe in a line.
@@ -21,7 +22,16 @@ pub fn put_tree(alloc: Global, parts: Parts, given: &mut String) -> Result<(), C
         morsel,
         workers: _,
     } = parts;
-    let plan = planned(alloc, &tree, &items, edges, morsel)?;
+    put_plan(planned(alloc, &tree, &items, edges, morsel)?, given);
+    Ok(())
+}
+
+fn put_plan(plan: Plan<AnyPlace>, given: &mut String) {
+    put_pipes(&plan, given);
+    drop(plan);
+}
+
+fn put_pipes(plan: &Plan<AnyPlace>, given: &mut String) {
     let words = plan.words.as_slice();
     put(given, format_args!("words {words:?}\n"));
     for pipe in plan.pipes.as_slice() {
@@ -31,7 +41,6 @@ pub fn put_tree(alloc: Global, parts: Parts, given: &mut String) -> Result<(), C
         put_ports(pipe.writes.as_slice(), given);
         put(given, "\n");
     }
-    Ok(())
 }
 
 fn put_ports(ports: &[Port], given: &mut String) {

@@ -1,7 +1,8 @@
 // Whether a plan can be made of parts, and the plan.
 ghost use Rattle.std.specs.Prelude.{◌≡◌, ◌∷◌, ℕ, ◌<◌, ◌≤◌, [], EachIndex, IfOk, IsTrue, length, map, slice_index, true};
 ghost use Rattle.exact_filter.specs.Exact.{row_places};
-ghost use Rattle.join_graph.specs.JoinList.{Extends, HasParents, has, listed_by};
+ghost use Rattle.join_graph.specs.JoinList.{Extends, HasParents, listed_by};
+ghost use Rattle.rpt_base.specs.Lists.{has};
 ghost use Rattle.rpt_engine.specs.Places.{places_of};
 ghost use Rattle.transfer_core.specs.Plans.{IsValid, shape_of};
 ghost use Rattle.transfer_plan.specs.Kept.{CanTell, item_count, sealed_run};
@@ -28,7 +29,8 @@ pub fn planned(
     ensures valid { IfOk result (λ plan. IsValid (shape_of places_of plan)) }
     ensures few { IfOk result (λ _. length items.now ≤ 64) }
     ensures tells { IfOk result (λ plan. EachIndex items.now (CanTell (sealed_run (shape_of places_of plan)))) }
-    ensures items { IfOk result (λ plan. EachIndex items.now (λ r. item_count (sealed_run (shape_of places_of plan)) r ≡ slice_index items.now r)) }
+    ensures items { IfOk result (λ plan. EachIndex items.now (λ r.
+        item_count (sealed_run (shape_of places_of plan)) r ≡ slice_index items.now r)) }
 {
     let rows = row_places(alloc, items)?;
     check_parts(alloc, tree, items, &edges, &rows, morsel)?;

@@ -19,8 +19,9 @@ struct Draft {
     pipes: Vec<Pipe>,
 }
 
-/// The plan that lines write: `morsel N`, `words N ..` of each region, for each placement `rows ITEMS`, `codes COUNT CODE ..` or `hashes HASH ..`, and for
-/// each pipe `pipe ITEMS` and behind it `reads` and `writes` with a region and a placement for each port. Other lines say nothing of it.
+/// The plan that lines write: `morsel N`, `words N ..` of each region, for each placement `rows ITEMS`, `codes COUNT
+/// CODE ..` or `hashes HASH ..`, and for each pipe `pipe ITEMS` and behind it `reads` and `writes` with a region and a
+/// placement for each port. Other lines say nothing of it.
 pub fn plan_of(alloc: Global, entries: &[Entry]) -> Result<Plan<AnyPlace>, CaseError> {
     let mut draft = Draft {
         morsel: 0,

@@ -17,8 +17,9 @@ pub struct Parts {
     pub workers: u32,
 }
 
-/// What a case writes: the tree behind the call's word, as `0 1>0 2>1`, and then lines `morsel N`, `items N ..` of each relation, `workers N` if
-/// there are more than one, and for each link `edge COUNT: CODE .. / CODE ..`, the child's codes and the parent's.
+/// What a case writes: the tree behind the call's word, as `0 1>0 2>1`, and then lines `morsel N`, `items N ..` of each
+/// relation, `workers N` if there are more than one, and for each link `edge COUNT: CODE .. / CODE ..`, the child's
+/// codes and the parent's.
 pub fn parts_of(alloc: Global, case: &Case) -> Result<Parts, CaseError> {
     let mut parts = Parts {
         tree: tree_of(alloc, case.head.as_str())?,

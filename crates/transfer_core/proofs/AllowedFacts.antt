@@ -1,10 +1,11 @@
 -- What the tests of steps say.
-use Rattle.std.proofs.Common.{◌≡◌, ◌↔◌, ℕ, zero, suc, ◌+◌, ◌/◌, ◌<◌, ◌≤◌, List, [], ◌∷◌, Option, Some, length, drop, get_or, map, Bool, true, false, ◌&&◌, ◌||◌, cond, sym, refl, ap, ◌∙◌, subst, arith, eqb, eq-eqb}
+use Rattle.std.proofs.Common.{◌≡◌, ◌↔◌, ℕ, zero, suc, ◌+◌, ◌/◌, ◌<◌, ◌≤◌, List, [], ◌∷◌, Option, Some, length, drop, get_or, map, true, false, ◌&&◌, ◌||◌, cond, sym, refl, ap, ◌∙◌, subst, arith, eqb, eq-eqb}
 use Rattle.std.specs.List.{list_all, list_any}
 use Rattle.std.proofs.lemmas.Bool.{eqb-true}
 use Rattle.std.proofs.lemmas.List.{get_or-map, length-map}
-use mathlib.Core.Option.{some, some-injective, some-ne-none}
+use mathlib.Core.Option.{some}
 use lib.ListN.{get_elem?}
+use Rattle.rpt_base.proofs.ListFacts.{any_from, all_from}
 use Rattle.key_codes.specs.Placement.{AreLawful}
 use Rattle.transfer_core.specs.declared.known.Known.{Known}
 use Rattle.transfer_core.specs.declared.plan.Pipe.{Pipe}
@@ -41,19 +42,6 @@ writer_past (x ∷ xs) (suc i) r l = writer_past xs i r (omega arith)
 -- ---- lists
 pub at_slice : {A : Type 0} (xs slice : List A) (i : ℕ) (a : A) → slice ≡ xs → i < length slice → a ≡ get_or slice i a → get_elem? xs i ≡ some a
 at_slice xs slice i a same l e = subst (λ (ys : List _). get_elem? ys i ≡ some a) same (at_index slice i a l e)
-
-all_from : {A : Type 0} (f : A → Bool) (xs : List A) → ((i : ℕ) (a : A) → get_elem? xs i ≡ some a → f a ≡ true) → list_all f xs ≡ true
-all_from f [] h = refl
-all_from f (x ∷ xs) h = λ k. h 0 x refl k && all_from f xs (λ i a e. h (suc i) a e) k
-
-any_from : {A : Type 0} (f : A → Bool) (xs : List A) (i : ℕ) (a : A) → get_elem? xs i ≡ some a → f a ≡ true → list_any f xs ≡ true
-any_from f [] i a e h = absurd (some-ne-none a (sym e))
-any_from f (x ∷ xs) zero a e h = λ k. (ap f (some-injective x a e) ∙ h) k || list_any f xs
-any_from f (x ∷ xs) (suc i) a e h = or_yes (f x) (any_from f xs i a e h)
-  where
-    or_yes : (b : Bool) {c : Bool} → c ≡ true → (b || c) ≡ true
-    or_yes true g = refl
-    or_yes false g = g
 
 -- each item of a pipe has its place in what the pipe reads
 pub read_places : (s : Shape) → IsValid s → (p : ℕ) (x : Pipe) → get_elem? s.pipes p ≡ some x → (i : ℕ) → i < x.items → (k : ℕ) (d : Port) → k < length x.reads → HasPlace s i (get_or x.reads k d)

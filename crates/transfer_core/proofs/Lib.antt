@@ -1,13 +1,13 @@
-mod AllowedFacts
+pub mod AllowedFacts
 pub mod AnswerFacts
 pub mod Full
 pub mod Keeps
 pub mod Lists
 pub mod Masks
-mod PlainFacts
+pub mod PlainFacts
 pub mod Regions
 mod RoomFacts
-mod StepFacts
+pub mod StepFacts
 pub mod Sums
 mod TakingFacts
 pub mod ValidFacts

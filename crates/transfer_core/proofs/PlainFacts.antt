@@ -25,7 +25,7 @@ use Rattle.transfer_core.proofs.WordFacts.{at_below, below_by}
 abbrev pub ArePortsSealed : Shape → List Port → List (List ℕ) → ℕ → Type 0
 ArePortsSealed s writes words n = (k : ℕ) → k < n → (w : ℕ) → w < words_of s (port_at writes k).region → regions_of words (port_at writes k).region w ≡ sealed s (port_at writes k).region w
 
-lawful_list : {P : Type 0} (seen : P → Places) → ((x : P) → IsLawful (seen x)) → (xs : List P) (k : ℕ) (d : Places) → k < length (map seen xs) → IsLawful (get_or (map seen xs) k d)
+pub lawful_list : {P : Type 0} (seen : P → Places) → ((x : P) → IsLawful (seen x)) → (xs : List P) (k : ℕ) (d : Places) → k < length (map seen xs) → IsLawful (get_or (map seen xs) k d)
 lawful_list seen law [] k d l = absurd (omega arith)
 lawful_list seen law (x ∷ xs) zero d l = law x
 lawful_list seen law (x ∷ xs) (suc k) d l = lawful_list seen law xs k d (omega arith)

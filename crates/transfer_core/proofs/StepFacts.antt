@@ -2,12 +2,13 @@
 use Rattle.std.proofs.Common.{◌≡◌, ◌≢◌, ◌⊎◌, inl, inr, ⊎_elim, ℕ, suc, ◌+◌, ◌/◌, ◌<◌, ◌≤◌, List, [], ◌∷◌, ◌++◌, length, get_or, map, set, Bool, true, false, ◌&&◌, sym, refl, ap, ◌∙◌, subst, arith, eqb, ltb, if◌then◌else◌, get_or-set_same, get_or-set_other, length-set}
 use Rattle.std.specs.Prelude.{bit_or, replicate}
 use Rattle.std.proofs.lemmas.Bool.{and_parts, eqb-true, ltb-true}
-use Rattle.std.proofs.lemmas.List.{get_or-map, get_or-replicate, length-map, length-replicate}
+use Rattle.std.proofs.lemmas.List.{get_or-map, length-map, length-replicate}
 use Rattle.std.proofs.Math.ListN.{get_or-eq_default}
 use mathlib.Core.Logic.{dite}
 use native.Mathlib.Decide.{ℕ_discrete, dec_le}
 use mathlib.Core.Option.{some}
 use lib.ListN.{get_elem?}
+use Rattle.rpt_base.proofs.ListFacts.{at-replicate}
 use Rattle.key_codes.specs.Placement.{AreLawful}
 use Rattle.transfer_core.specs.declared.steps.Step.{Step}
 use Rattle.transfer_core.specs.declared.steps.Step.TheVariants as step
@@ -22,13 +23,10 @@ use Rattle.transfer_core.proofs.Lists.{at_place, at_snoc, place_of_at}
 use Rattle.transfer_core.proofs.Regions.{right}
 use Rattle.transfer_core.proofs.ValidFacts.{any_at}
 
-same_at : {A : Type 0} (n p : ℕ) (a : A) → get_or (replicate n a) p a ≡ a
-same_at n p a = dite (dec_le n p) (λ past. get_or-eq_default (replicate n a) a (omega (arith, past, length-replicate n a))) (λ inside. get_or-replicate n p a a (omega arith))
-
-pair_is : (i q a b : ℕ) → (eqb a i && eqb b q) ≡ true → holding a b ≡ holding i q
+pub pair_is : (i q a b : ℕ) → (eqb a i && eqb b q) ≡ true → holding a b ≡ holding i q
 pair_is i q a b h = let t = and_parts (eqb a i) (eqb b q) h in let e = eqb-true a i t.0 in let g = eqb-true b q t.1 in λ k. (e k, g k) ∷ []
 
-first_pair : (x y : ℕ × ℕ) → x ∷ [] ≡ y ∷ [] → x ≡ y
+pub first_pair : (x y : ℕ × ℕ) → x ∷ [] ≡ y ∷ [] → x ≡ y
 first_pair x y e = ap (λ (l : List (ℕ × ℕ)). get_or l 0 x) e
 
 module _ (s : Shape) (V : IsValid s) (L : AreLawful s.places) where
@@ -162,7 +160,7 @@ module _ (s : Shape) (V : IsValid s) (L : AreLawful s.places) where
   -- ---- the first state
   no_words : (r w : ℕ) → regions_of (map (λ n. replicate {A = ℕ} n 0) s.words) r w ≡ 0
   no_words r w = dite (dec_le (suc r) (length s.words))
-      (λ inside. ap (λ (l : List ℕ). get_or l w 0) (get_or-map (λ n. replicate {A = ℕ} n 0) s.words r 0 [] inside) ∙ same_at (words_of s r) w 0)
+      (λ inside. ap (λ (l : List ℕ). get_or l w 0) (get_or-map (λ n. replicate {A = ℕ} n 0) s.words r 0 [] inside) ∙ at-replicate (words_of s r) w 0)
       (λ past. ap (λ (l : List ℕ). get_or l w 0) (get_or-eq_default (map (λ n. replicate {A = ℕ} n 0) s.words) [] (omega (arith, past, length-map s.words (λ n. replicate {A = ℕ} n 0)))))
 
   abbrev new : Actor
@@ -170,14 +168,14 @@ module _ (s : Shape) (V : IsValid s) (L : AreLawful s.places) where
 
   all_new : (n k : ℕ) (a : Actor) → get_elem? (replicate n new) k ≡ some a → IsNew (job_of s) R a
   all_new n k a e =
-      let is : a ≡ new = sym (place_of_at (replicate n new) k a new e) ∙ same_at n k new in
-      subst (IsNew (job_of s) R) (sym is) record { held = refl; finished = refl; unseen = λ p. same_at (length s.pipes) p false }
+      let is : a ≡ new = sym (place_of_at (replicate n new) k a new e) ∙ at-replicate n k new in
+      subst (IsNew (job_of s) R) (sym is) record { held = refl; finished = refl; unseen = λ p. at-replicate (length s.pipes) p false }
 
   pub begins_sound : (actors : ℕ) → IsSoundCore s (first_state s actors)
   begins_sound actors = record {
     sound = begins (job_of s) R (next_of (replicate (length s.pipes) 0)) (next_of (replicate (length s.pipes) 0)) (regions_of (map (λ n. replicate {A = ℕ} n 0) s.words)) (replicate actors new)
-        (λ p. same_at {A = ℕ} (length s.pipes) p 0) (λ p. same_at {A = ℕ} (length s.pipes) p 0) no_words (all_new actors);
-    most = λ p l. omega (arith, same_at {A = ℕ} (length s.pipes) p 0);
+        (λ p. at-replicate {X = ℕ} (length s.pipes) p 0) (λ p. at-replicate {X = ℕ} (length s.pipes) p 0) no_words (all_new actors);
+    most = λ p l. omega (arith, at-replicate {X = ℕ} (length s.pipes) p 0);
     nexts = length-replicate {A = ℕ} (length s.pipes) 0;
     dones = length-replicate {A = ℕ} (length s.pipes) 0;
     sized = record { regions = length-map s.words (λ n. replicate {A = ℕ} n 0); each = λ r l. ap length (get_or-map (λ n. replicate {A = ℕ} n 0) s.words r 0 [] l) ∙ length-replicate {A = ℕ} (words_of s r) 0 };

@@ -1,5 +1,6 @@
 -- Plans of pipes as contracts see them, and which of them are valid.
-use Rattle.std.specs.Prelude.{◌≡◌, ℕ, ◌%◌, ◌^◌, ◌<◌, ◌≤◌, ◌==◌, ◌&&◌, nat_lt, nat_le, All, Bool, IsTrue, List, [], filter, length, map, slice_index, slice_index_or, sum_by, take}
+use Rattle.std.specs.Prelude.{◌≡◌, ℕ, ◌%◌, ◌^◌, ◌<◌, ◌≤◌, ◌==◌, ◌&&◌, nat_lt, nat_le, All, Bool, IsTrue, List, [], filter}
+use Rattle.std.specs.Prelude.{length, map, slice_index, slice_index_or, sum_by, take}
 use Rattle.std.specs.List.{list_all, list_any}
 use Rattle.rpt_base.specs.Limits.{IsMorsel}
 use Rattle.key_codes.specs.Placement.{Places, place_of}

@@ -1,6 +1,7 @@
 -- States in code, and the room that they keep.
 -- Words of this crate's own contracts.
-use Rattle.std.specs.Prelude.{◌≡◌, ◌*◌, ◌/◌, ◌<◌, ◌≤◌, ℕ, Bool, false, true, List, [], ◌∷◌, Option, Some, None, length, map, replicate, sum_by}
+use Rattle.std.specs.Prelude.{◌≡◌, ◌*◌, ◌/◌, ◌<◌, ◌≤◌, ℕ, Bool, false, true, List, [], ◌∷◌, Option, Some, None, length, map}
+use Rattle.std.specs.Prelude.{replicate, sum_by}
 use Rattle.std.specs.Int.{div_ceil}
 use Rattle.std.specs.List.{list_all}
 use Rattle.std.specs.Vec.{vec_capacity}

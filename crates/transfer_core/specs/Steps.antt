@@ -1,9 +1,11 @@
 -- Steps of actors, and the states that they lead to.
 -- Words of this crate's own contracts.
-use Rattle.std.specs.Prelude.{◌≡◌, ℕ, ◌+◌, ◌/◌, ◌<◌, ◌≤◌, ◌==◌, nat_lt, if◌then◌else◌, true, List, [], ◌∷◌, length, map, replicate, slice_index, slice_index_or, slice_set}
+use Rattle.std.specs.Prelude.{◌≡◌, ℕ, ◌+◌, ◌/◌, ◌<◌, ◌≤◌, ◌==◌, nat_lt, if◌then◌else◌, true, List, [], ◌∷◌, length, map}
+use Rattle.std.specs.Prelude.{replicate, slice_index, slice_index_or, slice_set}
 use Rattle.transfer_core.specs.declared.steps.Step.{Step}
 use Rattle.transfer_core.specs.declared.steps.Step.TheVariants as step
-use Rattle.transfer_core.specs.Actors.{Actor, HasSeen, Holds, HoldsNone, actor, idle, is_listed, nothing, with_finished, with_morsel, with_put, with_seen}
+use Rattle.transfer_core.specs.Actors.{Actor, HasSeen, Holds, HoldsNone, actor, idle, is_listed, nothing, with_finished}
+use Rattle.transfer_core.specs.Actors.{with_morsel, with_put, with_seen}
 use Rattle.transfer_core.specs.Job.{IsPassing, IsWord, Job, job_of}
 use Rattle.transfer_core.specs.Plans.{Shape}
 use Rattle.transfer_core.specs.Sealed.{sealed}

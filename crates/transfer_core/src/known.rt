@@ -38,15 +38,9 @@ impl Known {
         ensures puts { IfOk result (λ k. vec_capacity k.puts ≡ puts) }
         ensures finished { IfOk result (λ k. vec_capacity k.finished ≡ finished) }
     {
-        let Ok(puts) = Vec::with_capacity(alloc, puts) else {
-            return Err(Memory);
-        };
-        let Ok(finished) = Vec::with_capacity(alloc, finished) else {
-            return Err(Memory);
-        };
-        let Ok(seen) = vec![in alloc; false; pipes] else {
-            return Err(Memory);
-        };
+        let puts = Vec::with_capacity(alloc, puts)?;
+        let finished = Vec::with_capacity(alloc, finished)?;
+        let seen = vec![in alloc; false; pipes]?;
         Ok(Known {
             held: None,
             puts,

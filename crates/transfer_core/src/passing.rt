@@ -64,9 +64,7 @@ pub(crate) fn filled<P: Placement>(
         filled.items ≡ filled_words (shape_of P.seen plan.now) words.now pipe.now port) }
 {
     let count = plan.words.as_slice()[port.region as usize];
-    let Ok(mut filled) = vec![in alloc; 0; count as usize] else {
-        return Err(Memory);
-    };
+    let mut filled = vec![in alloc; 0; count as usize]?;
     for item in 0..pipe.items {
         if passes(plan, words, pipe.reads.as_slice(), item) {
             let place = place_in(plan, port, item);

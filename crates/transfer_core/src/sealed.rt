@@ -41,16 +41,10 @@ impl Sealed {
     pub(crate) fn zeros(alloc: Global, counts: &[u32]) -> Result<Sealed, Memory>
         ensures { IfOk result (λ sealed. sealed ≡ map (λ n. replicate n 0) counts.now) }
     {
-        let Ok(mut words) = Vec::with_capacity(alloc, counts.len()) else {
-            return Err(Memory);
-        };
+        let mut words = Vec::with_capacity(alloc, counts.len())?;
         for count in counts {
-            let Ok(zeros) = vec![in alloc; 0; *count as usize] else {
-                return Err(Memory);
-            };
-            if words.push(zeros).is_err() {
-                return Err(Memory);
-            }
+            let zeros = vec![in alloc; 0; *count as usize]?;
+            words.push(zeros)?;
         }
         Ok(Sealed { words })
     }

@@ -30,12 +30,8 @@ impl State {
         ensures of { IfOk result (IsStateOf (shape_of P.seen plan.now)) }
     {
         let pipes = plan.pipes.as_slice().len();
-        let Ok(next) = vec![in alloc; 0; pipes] else {
-            return Err(Memory);
-        };
-        let Ok(done) = vec![in alloc; 0; pipes] else {
-            return Err(Memory);
-        };
+        let next = vec![in alloc; 0; pipes]?;
+        let done = vec![in alloc; 0; pipes]?;
         let words = Sealed::zeros(alloc, plan.words.as_slice())?;
         let actors = all_idle(alloc, plan, actors)?;
         Ok(State {
@@ -56,14 +52,10 @@ fn all_idle<P: Placement>(alloc: Global, plan: &Plan<P>, actors: u32) -> Result<
     let puts = most_puts(plan)?;
     let morsels = all_morsels(plan);
     let pipes = plan.pipes.as_slice().len();
-    let Ok(mut all) = Vec::with_capacity(alloc, actors as usize) else {
-        return Err(Memory);
-    };
+    let mut all = Vec::with_capacity(alloc, actors as usize)?;
     for _ in 0..actors {
         let known = Known::start(alloc, puts, morsels, pipes)?;
-        if all.push(known).is_err() {
-            return Err(Memory);
-        }
+        all.push(known)?;
     }
     Ok(all)
 }

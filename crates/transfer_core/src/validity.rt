@@ -1,7 +1,8 @@
 // Which plans are valid.
-ghost use Rattle.std.specs.Prelude.{◌≡◌, ◌<◌, ◌≤◌, ◌↔◌, ◌==◌, IsTrue, filter, length, slice_index};
+ghost use Rattle.std.specs.Prelude.{◌≡◌, ◌<◌, ◌≤◌, ◌↔◌, ◌==◌, IsTrue, filter, length};
 ghost use Rattle.std.specs.List.{list_all, list_any};
-ghost use Rattle.transfer_core.specs.Plans.{AreRegions, ArePipes, IsPipe, IsRegion, IsValid, are_written, is_written, serves, shape_of, writers_of};
+ghost use Rattle.transfer_core.specs.Plans.{AreRegions, ArePipes, IsPipe, IsRegion, IsValid, are_written, is_written, serves};
+ghost use Rattle.transfer_core.specs.Plans.{shape_of, writers_of};
 
 use crate::limits::{MAX_PIPES, MAX_WRITES};
 use crate::{Pipe, Plan, Port};

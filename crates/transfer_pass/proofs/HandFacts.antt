@@ -1,5 +1,6 @@
 -- Lists of hands, and their parts.
-use Rattle.std.proofs.Common.{◌≡◌, ℕ, zero, suc, ◌+◌, ◌<◌, List, [], ◌∷◌, ◌++◌, length, get_or, take, All, Bool, true, false, ◌||◌, arith, ap, refl, subst, sym, ◌∙◌}
+use Rattle.std.proofs.Common.{◌≡◌, ℕ, zero, suc, ◌+◌, ◌<◌, List, [], ◌∷◌, ◌++◌, length, get_or, take, All, Bool, true, ◌||◌, arith, ap, refl, subst, sym, ◌∙◌}
+use Rattle.std.proofs.lemmas.Bool.{or_left}
 use Rattle.filter_board.specs.Views.{HandView, with_actor}
 use Rattle.transfer_core.proofs.Sums.{total-append}
 use Rattle.transfer_core.specs.Actors.{is_marked, with_seen}
@@ -38,14 +39,11 @@ taken (suc n) [] rest long = absurd (omega arith)
 taken (suc n) (x ∷ xs) rest long = ap (λ l. x ∷ l) (taken n xs rest (omega arith))
 
 -- ---- marks of either list
-yes_left : (b c : Bool) → b ≡ true → (b || c) ≡ true
-yes_left true c e = refl
-yes_left false c e = cc e
 
 pub marked_left : (a b : List Bool) (p : ℕ) → is_marked a p ≡ true → is_marked (either a b) p ≡ true
 marked_left [] b p e = cc e
 marked_left (x ∷ xs) [] p e = e
-marked_left (x ∷ xs) (y ∷ ys) zero e = yes_left x y e
+marked_left (x ∷ xs) (y ∷ ys) zero e = or_left x y e
 marked_left (x ∷ xs) (y ∷ ys) (suc p) e = marked_left xs ys p e
 
 -- ---- calls that change the marks alone

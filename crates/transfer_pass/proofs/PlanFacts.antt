@@ -1,9 +1,9 @@
 -- What a valid plan says of the ports of a pipe, for one who has seen the pipes that it reads from.
-use Rattle.std.proofs.Common.{◌≡◌, ℕ, zero, suc, ◌<◌, ◌||◌, All, List, [], ◌∷◌, length, get_or, Bool, true, false, eqb, eq-eqb, arith, sym, refl, ap, ◌∙◌, subst}
-use Rattle.std.specs.List.{list_any}
+use Rattle.std.proofs.Common.{◌≡◌, ℕ, ◌<◌, ◌||◌, All, List, [], ◌∷◌, length, get_or, true, eqb, eq-eqb, arith, sym, refl, ap, ◌∙◌, subst}
 use Rattle.std.proofs.lemmas.Bool.{eqb-true}
-use mathlib.Core.Option.{some, some-injective, some-ne-none}
+use mathlib.Core.Option.{some}
 use lib.ListN.{get_elem?}
+use Rattle.rpt_base.proofs.ListFacts.{any_from}
 use Rattle.transfer_core.specs.declared.plan.Pipe.{Pipe}
 use Rattle.transfer_core.specs.declared.plan.Port.{Port}
 use Rattle.transfer_core.specs.Actors.{Actor}
@@ -14,15 +14,6 @@ use Rattle.transfer_core.proofs.Lists.{at_index, at_place, place_of_at}
 use Rattle.transfer_core.proofs.Regions.{reads_before}
 use Rattle.transfer_core.proofs.ValidFacts.{any_at, has_place, read_serves}
 use Rattle.transfer_pass.specs.Work.{HasSeenWriter}
-
-any_from : {A : Type 0} (f : A → Bool) (xs : List A) (i : ℕ) (a : A) → get_elem? xs i ≡ some a → f a ≡ true → list_any f xs ≡ true
-any_from f [] i a e h = absurd (some-ne-none a (sym e))
-any_from f (x ∷ xs) zero a e h = λ k. (ap f (some-injective x a e) ∙ h) k || list_any f xs
-any_from f (x ∷ xs) (suc i) a e h = or_yes (f x) (any_from f xs i a e h)
-  where
-    or_yes : (b : Bool) {c : Bool} → c ≡ true → (b || c) ≡ true
-    or_yes true g = refl
-    or_yes false g = g
 
 -- what an index gave of the pipes of a plan
 pub indexed : (slice pipes : List Pipe) (p : ℕ) (x : Pipe) → slice ≡ pipes → p < length pipes → x ≡ get_or slice p x → x ≡ pipe_at pipes p

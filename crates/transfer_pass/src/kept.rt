@@ -1,5 +1,5 @@
 // What a run of a plan keeps.
-ghost use Rattle.std.specs.Prelude.{◌≡◌, ◌<◌, ◌*◌, [], ◌∷◌, ◌++◌, IfOk, OnOk, length, slice_index_or};
+ghost use Rattle.std.specs.Prelude.{◌≡◌, ◌<◌, ◌*◌, [], ◌∷◌, ◌++◌, IfOk, length, slice_index_or};
 ghost use Rattle.transfer_plan.specs.Kept.{CanTell, has_bit, is_kept, item_count, kept_among, kept_count, kept_rows, last_of, written_by};
 
 use rpt_base::{Listed, Memory};
@@ -89,7 +89,7 @@ impl TransferRun {
         let mut list = Vec::new(alloc);
         for item in 0..kept.items {
             if has_item(&self.sealed, kept.region, item) {
-                add(&mut list, rows[item as usize])?;
+                list.push(rows[item as usize])?;
             }
         }
         Ok(list)
@@ -100,16 +100,6 @@ impl TransferRun {
         ensures { result.now ≡ self.now.words }
     {
         &self.sealed
-    }
-}
-
-// Adds a row.
-fn add(rows: &mut Vec<u32>, row: u32) -> Result<(), Memory>
-    ensures { OnOk result (rows.new.items ≡ rows.old.items ++ row ∷ []) }
-{
-    match rows.push(row) {
-        Ok(()) => Ok(()),
-        Err(_) => Err(Memory),
     }
 }
 

@@ -101,7 +101,9 @@ fn work_round<P: Placement + Drop, G: Gate>(
     gate.pass(round, worker);
     let pipes = board.plan().pipes.as_slice().len() as u32;
     for pipe in 0..pipes {
-        look_before(board, hand, pipe);
+        if !board.may_draw(hand, pipe) {
+            look_before(board, hand, pipe);
+        }
         work_if_ready(board, hand, pipe);
     }
 }
@@ -121,17 +123,13 @@ fn work_if_ready<P: Placement + Drop>(board: &Board<P>, hand: &mut Hand, pipe: u
     }
 }
 
-// Looks for the pipes before this one, in order, until one doesn't become full in time. A hand that may draw from the pipe already
-// looks for none.
+// Looks for the pipes before this one, in order, until one doesn't become full in time.
 fn look_before<P: Placement + Drop>(board: &Board<P>, hand: &mut Hand, pipe: u32)
     requires own { hand.old.of ≡ board.now.of }
     requires pipe { pipe < length board.now.plan.pipes }
     ensures same { hand.new ≡ with_marks hand.new.actor.seen hand.old }
     ensures seen { KeepsSeen hand.old hand.new }
 {
-    if board.may_draw(hand, pipe) {
-        return;
-    }
     for before in 0..pipe {
         if !look_for(board, hand, before) {
             return;

@@ -2,7 +2,7 @@
 use Rattle.std.proofs.Common.{◌≡◌, ◌⊎◌, inl, inr, ⊎_elim, ℕ, zero, suc, ◌+◌, ◌-◌, ◌<◌, List, [], ◌∷◌, ◌++◌, length, map, get_or, take, Bool, true, false, ◌||◌, ◌&&◌, not, refl, sym, ap, ◌∙◌, subst, arith, eqb, eq-eqb, if◌then◌else◌, true≢false, append_assoc, length-append}
 use Rattle.std.specs.Prelude.{reverse}
 use Rattle.std.specs.List.{list_all, list_any}
-use Rattle.std.proofs.lemmas.Bool.{and_parts, eqb-true}
+use Rattle.std.proofs.lemmas.Bool.{and_parts, eqb-true, and_from, or_right, or_left}
 use Rattle.std.proofs.lemmas.List.{get_or-map, length-map, length-reverse, take-append-le, take-map, get_or-append-add, get_or_append_left}
 use Rattle.std.proofs.lemmas.List.Folds.{list_all-map, list_any-append}
 use Rattle.std.proofs.Math.Seq.{get_or-append_seam, take-append-add, take-append_seam}
@@ -10,24 +10,20 @@ use mathlib.Core.List.{reverse-cons}
 use mathlib.Core.Logic.{dite}
 use native.Mathlib.Decide.{dec_le}
 use Rattle.join_graph.specs.declared.tree.Link.{Link}
-use Rattle.join_graph.specs.JoinList.{Extends, HasParents, has}
+use Rattle.join_graph.specs.JoinList.{Extends, HasParents}
+use Rattle.rpt_base.specs.Lists.{has}
 use Rattle.transfer_core.specs.declared.plan.Pipe.{Pipe}
 use Rattle.transfer_core.specs.declared.plan.Port.{Port}
 use Rattle.transfer_core.specs.Plans.{are_written, is_written, no_pipe}
 use Rattle.transfer_plan.specs.declared.region.Region.TheVariants as region
 use Rattle.transfer_plan.specs.TransferPlan.{backward_pipe, child_of, children, forward_pipe, has_keys, members, no_link, number_of, parent_of, pipes, port}
-use Rattle.transfer_plan.proofs.Numbers.{has_here, has_more, or_right}
+use Rattle.transfer_plan.proofs.Numbers.{has_here}
+use Rattle.rpt_base.proofs.MemberFacts.{has-kept, has-append}
 
 -- one of some links
 unfoldable pub Among : Link → List Link → Type 0
 Among l [] = ⊥
 Among l (x ∷ xs) = (x ≡ l) ⊎ Among l xs
-
-pub both : (b c : Bool) → b ≡ true → c ≡ true → (b && c) ≡ true
-both b c e f = λ k. e k && f k
-
-pub or_left : (b c : Bool) → b ≡ true → (b || c) ≡ true
-or_left b c e = ap (λ x. x || c) e
 
 pub has_cases : (x y : ℕ) (ys : List ℕ) (P : Type 0) → has x (y ∷ ys) ≡ true → (x ≡ y → P) → (has x ys ≡ true → P) → P
 has_cases x y ys P h here there = by (eqb x y) refl h
@@ -36,14 +32,11 @@ has_cases x y ys P h here there = by (eqb x y) refl h
     by true e h = here (eqb-true x y e)
     by false e h = there h
 
-has_append : (x : ℕ) (xs ys : List ℕ) → has x (xs ++ ys) ≡ (has x xs || has x ys)
-has_append x xs ys = list_any-append (eqb x) xs ys
-
 has_left : (x : ℕ) (xs ys : List ℕ) → has x xs ≡ true → has x (xs ++ ys) ≡ true
-has_left x xs ys h = has_append x xs ys ∙ or_left (has x xs) (has x ys) h
+has_left x xs ys h = has-append x xs ys ∙ or_left (has x xs) (has x ys) h
 
 has_right : (x : ℕ) (xs ys : List ℕ) → has x ys ≡ true → has x (xs ++ ys) ≡ true
-has_right x xs ys h = has_append x xs ys ∙ or_right (has x xs) (has x ys) h
+has_right x xs ys h = has-append x xs ys ∙ or_right (has x xs) (has x ys) h
 
 pub has_reverse : (x : ℕ) (xs : List ℕ) → has x xs ≡ true → has x (reverse xs) ≡ true
 has_reverse x [] h = h
@@ -54,12 +47,12 @@ has_reverse x (y ∷ ys) h = ap (has x) (reverse-cons y ys) ∙ has_cases x y ys
 pub has_at : (xs : List ℕ) (k : ℕ) → k < length xs → has (get_or xs k 0) xs ≡ true
 has_at [] k l = absurd (omega arith)
 has_at (x ∷ xs) zero l = has_here x x xs refl
-has_at (x ∷ xs) (suc k) l = has_more (get_or xs k 0) x xs (has_at xs k (omega arith))
+has_at (x ∷ xs) (suc k) l = has-kept (get_or xs k 0) x xs (has_at xs k (omega arith))
 
 pub among_child : (l : Link) (ls : List Link) → Among l ls → has l.child (map (λ m. m.child) ls) ≡ true
 unfolding Among
 among_child l [] h = absurd h
-among_child l (m ∷ ls) h = ⊎_elim (λ e. has_here l.child m.child (map (λ m. m.child) ls) (ap (λ (x : Link). x.child) (sym e))) (λ k. has_more l.child m.child (map (λ m. m.child) ls) (among_child l ls k)) h
+among_child l (m ∷ ls) h = ⊎_elim (λ e. has_here l.child m.child (map (λ m. m.child) ls) (ap (λ (x : Link). x.child) (sym e))) (λ k. has-kept l.child m.child (map (λ m. m.child) ls) (among_child l ls k)) h
 
 -- a test that each child of r passes
 pub all_children : (f : ℕ → Bool) (r : ℕ) (ls : List Link) → ((l : Link) → Among l ls → l.parent ≡ r → f l.child ≡ true) → list_all f (children ls r) ≡ true
@@ -68,7 +61,7 @@ all_children f r [] h = refl
 all_children f r (l ∷ ls) h = by (eqb l.parent r) refl (all_children f r ls (λ m a. h m (inr a))) (h l (inl refl))
   where
     by : (b : Bool) → eqb l.parent r ≡ b → list_all f (children ls r) ≡ true → (l.parent ≡ r → f l.child ≡ true) → list_all f (children (l ∷ ls) r) ≡ true
-    by true e more here = rw e (both (f l.child) (list_all f (children ls r)) (here (eqb-true l.parent r e)) more)
+    by true e more here = rw e (and_from (f l.child) (list_all f (children ls r)) (here (eqb-true l.parent r e)) more)
     by false e more here = rw e more
 
 pub is_child : (l : Link) (ls : List Link) → Among l ls → has l.child (children ls l.parent) ≡ true
@@ -78,7 +71,7 @@ is_child l (m ∷ ls) h = by (eqb m.parent l.parent) refl (⊎_elim (λ e. inl e
   where
     by : (b : Bool) → eqb m.parent l.parent ≡ b → (m ≡ l) ⊎ (has l.child (children ls l.parent) ≡ true) → has l.child (children (m ∷ ls) l.parent) ≡ true
     by true e (inl same) = rw e (has_here l.child m.child (children ls l.parent) (ap (λ (x : Link). x.child) (sym same)))
-    by true e (inr k) = rw e (has_more l.child m.child (children ls l.parent) k)
+    by true e (inr k) = rw e (has-kept l.child m.child (children ls l.parent) k)
     by false e (inl same) = absurd (true≢false (sym (eq-eqb m.parent l.parent (ap (λ (x : Link). x.parent) same)) ∙ e))
     by false e (inr k) = rw e k
 
@@ -98,9 +91,9 @@ module _ (links : List Link) where
         (λ same. absurd (true≢false (sym h.2 ∙ ap (λ (x : ℕ). has x listed) (ap (λ (x : Link). x.parent) same ∙ e) ∙ h.1)))
         (λ later. among_child l ls later) new) (left l a)),
     below n (m.child ∷ listed) ls h.3 (λ l a. ⊎_elim
-        (λ old. inl (has_more l.parent m.child listed old))
+        (λ old. inl (has-kept l.parent m.child listed old))
         (λ new. ⊎_elim
-        (λ same. inl (has_more l.parent m.child listed (ap (λ (x : Link). has x.parent listed) (sym same) ∙ h.2)))
+        (λ same. inl (has-kept l.parent m.child listed (ap (λ (x : Link). has x.parent listed) (sym same) ∙ h.2)))
         (λ later. inr later) new) (left l a)),
   )
 
@@ -149,7 +142,7 @@ not_listed n listed (m ∷ ls) h l a = ⊎_elim (λ e. ap (λ (x : Link). has x.
     (λ k. by (has l.child listed) refl (not_listed n (m.child ∷ listed) ls h.3 l k)) a
   where
     by : (b : Bool) → has l.child listed ≡ b → has l.child (m.child ∷ listed) ≡ false → has l.child listed ≡ false
-    by true e f = absurd (true≢false (sym (has_more l.child m.child listed e) ∙ f))
+    by true e f = absurd (true≢false (sym (has-kept l.child m.child listed e) ∙ f))
     by false e f = e
 
 pub among_at : (ls : List Link) (k : ℕ) → k < length ls → Among (get_or ls k no_link) ls
@@ -199,7 +192,7 @@ module _ (n root : ℕ) (links : List Link) (keyed : Bool) (items : List ℕ) (p
       go false e = absurd (true≢false (sym e))
 
   pub not_root : (l : Link) → Among l links → keyed ≡ true → has_keys root links keyed l.child ≡ true
-  not_root l a on = both keyed (not (eqb l.child root)) on (ap not (by (eqb l.child root) refl (not_listed n (root ∷ []) links parents.extends l a)))
+  not_root l a on = and_from keyed (not (eqb l.child root)) on (ap not (by (eqb l.child root) refl (not_listed n (root ∷ []) links parents.extends l a)))
     where
       by : (c : Bool) → eqb l.child root ≡ c → has l.child (root ∷ []) ≡ false → eqb l.child root ≡ false
       by true e h = absurd (true≢false (sym (or_left (eqb l.child root) false e) ∙ h))
@@ -236,12 +229,12 @@ module _ (n root : ℕ) (links : List Link) (keyed : Bool) (items : List ℕ) (p
   unfolding done
   backward_reads i less =
       let r : ℕ = get_or M i 0 in
-      both _ _
+      and_from _ _
       (list_any-append _ (map f (reverse M)) (map b (take i M)) ∙ or_left _ _ (hit f _ (reverse M) r (has_reverse r M (has_at M i less)) (row_written r)))
       (go (has_keys root links keyed (get_or M i 0)) refl)
     where
       go : (k : Bool) → has_keys root links keyed (get_or M i 0) ≡ k → list_all (λ (a : Port). is_written (map f (reverse M) ++ map b (take i M)) a.region) (if k then port root links keyed (region.BackwardKeys (get_or M i 0)) (child_of root links keyed items (get_or M i 0)) ∷ [] else []) ≡ true
-      go true on = both _ true (list_any-append _ (map f (reverse M)) (map b (take i M)) ∙ or_right _ _ (parent_written i less on)) refl
+      go true on = and_from _ true (list_any-append _ (map f (reverse M)) (map b (take i M)) ∙ or_right _ _ (parent_written i less on)) refl
       go false off = refl
 
   -- what each pipe reads is written by pipes before it

@@ -3,14 +3,15 @@ use Rattle.std.proofs.Common.{◌≡◌, ◌≢◌, inl, inr, ℕ, zero, suc, �
 use Rattle.std.specs.Prelude.{bit_and, reverse}
 use Rattle.std.specs.Int.{div_ceil}
 use Rattle.std.specs.List.{list_any, range_with_len}
-use Rattle.std.proofs.lemmas.Bool.{cases_Bool}
+use Rattle.std.proofs.lemmas.Bool.{cases_Bool, or_right, or_left}
 use Rattle.std.proofs.lemmas.Grind.{div_ceil_times}
 use Rattle.std.proofs.lemmas.List.FromFn.{get_or-map-range_with_len, get_or-range_with_len, length-map-range_with_len}
 use mathlib.Core.Logic.{dite}
 use native.Mathlib.Decide.{ℕ_discrete}
 use mathlib.Core.Option.{some}
 use Rattle.join_graph.specs.declared.tree.Link.{Link}
-use Rattle.join_graph.specs.JoinList.{HasParents, has}
+use Rattle.join_graph.specs.JoinList.{HasParents}
+use Rattle.rpt_base.specs.Lists.{has}
 use Rattle.key_codes.specs.Placement.{Places, place_of}
 use Rattle.key_codes.specs.declared.places.Place.{Place}
 use Rattle.transfer_core.specs.declared.plan.Pipe.{Pipe}
@@ -25,8 +26,8 @@ use Rattle.transfer_plan.specs.Kept.{CanTell, Run, Written, has_bit, is_kept, is
 use Rattle.transfer_plan.specs.Passing.{passes_backward}
 use Rattle.transfer_plan.specs.TransferPlan.{SeenEdge, backward_pipe, children, forward_pipe, members, number_of, parent_of, pipes, port}
 use Rattle.transfer_plan.proofs.Numbered.{IsTreeShape, backward_row, backward_there, each_member}
-use Rattle.transfer_plan.proofs.Numbers.{has_here, has_more, or_right}
-use Rattle.transfer_plan.proofs.Earlier.{or_left}
+use Rattle.transfer_plan.proofs.Numbers.{has_here}
+use Rattle.rpt_base.proofs.MemberFacts.{has-kept}
 use Rattle.transfer_plan.proofs.LastFacts.{last-pipe, last-pipes, last-port}
 
 -- ---- the region that is written last with a placement
@@ -45,7 +46,7 @@ module _ (r : ℕ) (g : ℕ → Pipe) (kept : Written) (own : (w : Written) → 
       (λ ne. last-pipe r (g o) (map g rs) w ∙ ap (kept_from r (map g rs)) (other o w ne) ∙ kept_none rs w (rest (has r rs) refl))
     where
       rest : (b : Bool) → has r rs ≡ b → has r rs ≡ false
-      rest true e = absurd (true≢false (sym (has_more r o rs e) ∙ h))
+      rest true e = absurd (true≢false (sym (has-kept r o rs e) ∙ h))
       rest false e = e
 
   kept_some : (rs : List ℕ) (w : Written) → has r rs ≡ true → kept_from r (map g rs) w ≡ kept

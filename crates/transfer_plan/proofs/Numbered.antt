@@ -3,12 +3,14 @@ use Rattle.std.proofs.Common.{◌≡◌, ◌⊎◌, ◌↔◌, inl, inr, ⊎_eli
 use Rattle.std.specs.Prelude.{Contains, reverse}
 use Rattle.std.specs.Int.{div_ceil}
 use Rattle.std.specs.List.{filter, list_all, range_with_len}
-use Rattle.std.proofs.lemmas.Bool.{and_parts}
+use Rattle.std.proofs.lemmas.Bool.{and_parts, and_from}
 use Rattle.std.proofs.lemmas.List.{get_or-append-add, get_or_append_left}
 use Rattle.std.proofs.lemmas.List.Folds.{list_all-map}
 use Rattle.std.proofs.lemmas.List.FromFn.{get_or-range_with_len}
 use Rattle.join_graph.specs.declared.tree.Link.{Link}
-use Rattle.join_graph.specs.JoinList.{Extends, HasParents, has, listed_by}
+use Rattle.join_graph.specs.JoinList.{Extends, HasParents, listed_by}
+use Rattle.rpt_base.specs.Lists.{has}
+use Rattle.rpt_base.proofs.BoolFacts.{same_truth}
 use Rattle.key_codes.specs.Placement.{Places}
 use Rattle.key_codes.specs.Placement.Kind.{Exact}
 use Rattle.transfer_core.specs.declared.plan.Pipe.{Pipe}
@@ -21,8 +23,9 @@ use Rattle.transfer_core.proofs.AnswerFacts.{answers_exactly, answers_put}
 use Rattle.transfer_plan.specs.declared.region.Region.TheVariants as region
 use Rattle.transfer_plan.specs.Passing.{HasChild, HasParent, edge_of, passes_backward, passes_forward}
 use Rattle.transfer_plan.specs.TransferPlan.{SeenEdge, backward_pipe, child_of, children, forward_pipe, has_keys, members, number_of, parent_of, pipes, port}
-use Rattle.transfer_plan.proofs.Earlier.{Among, all_children, among_child, both, has_cases, has_reverse, is_child, not_root}
-use Rattle.transfer_plan.proofs.Numbers.{has_here, has_more}
+use Rattle.transfer_plan.proofs.Earlier.{Among, all_children, among_child, has_cases, has_reverse, is_child, not_root}
+use Rattle.transfer_plan.proofs.Numbers.{has_here}
+use Rattle.rpt_base.proofs.MemberFacts.{has-kept}
 use Rattle.transfer_plan.proofs.Serves.{member_within}
 
 -- ---- what is among a list
@@ -66,8 +69,8 @@ each_child f r (m ∷ ls) h l a e = by (eqb m.parent r) refl h a (λ t k. each_c
   where
     by : (b : Bool) → eqb m.parent r ≡ b → list_all f (map (λ (x : Link). x.child) (cond b (m ∷ filter (λ (x : Link). eqb x.parent r) ls) (filter (λ (x : Link). eqb x.parent r) ls))) ≡ true
         → (m ≡ l) ⊎ Among l ls → (list_all f (children ls r) ≡ true → Among l ls → f l.child ≡ true) → f l.child ≡ true
-    by true o t a rest = let both = and_parts (f m.child) (list_all f (children ls r)) t in
-        ⊎_elim (λ s. ap (λ (x : Link). f x.child) (sym s) ∙ both.0) (λ k. rest both.1 k) a
+    by true o t a rest = let and_from = and_parts (f m.child) (list_all f (children ls r)) t in
+        ⊎_elim (λ s. ap (λ (x : Link). f x.child) (sym s) ∙ and_from.0) (λ k. rest and_from.1 k) a
     by false o t a rest = ⊎_elim (λ s. absurd (true≢false (sym (eq-eqb m.parent r (ap (λ (x : Link). x.parent) s ∙ e)) ∙ o))) (λ k. rest t k) a
 
 -- ---- the ports that a pipe writes
@@ -134,13 +137,13 @@ member_of : (root : ℕ) (links : List Link) (listed : List ℕ) (r : ℕ) → h
 member_of root [] listed r h = inl h
 member_of root (l ∷ links) listed r h = ⊎_elim
     (λ a. has_cases r l.child listed _ a (λ e. inr (has_here r l.child (map (λ m. m.child) links) e)) (λ k. inl k))
-    (λ b. inr (has_more r l.child (map (λ m. m.child) links) b))
+    (λ b. inr (has-kept r l.child (map (λ m. m.child) links) b))
     (member_of root links (l.child ∷ listed) r h)
 
 pub each_member : (n root : ℕ) (links : List Link) → HasParents n root links → (r : ℕ) → r < n → has r (members root links) ≡ true
 each_member n root links parents r less = ⊎_elim
     (λ a. has_cases r root [] _ a (λ e. has_here r root (map (λ m. m.child) links) e) (λ k. absurd (true≢false (sym k))))
-    (λ b. has_more r root (map (λ m. m.child) links) b)
+    (λ b. has-kept r root (map (λ m. m.child) links) b)
     (member_of root links (root ∷ []) r (parents.all r less))
 
 -- a link's parent is a member
@@ -151,18 +154,13 @@ parent_among n listed (m ∷ ls) h l a = ⊎_elim
     (λ e. inl (ap (λ (x : Link). has x.parent listed) (sym e) ∙ h.2))
     (λ k. ⊎_elim
     (λ old. has_cases l.parent m.child listed _ old (λ e. inr (has_here l.parent m.child (map (λ x. x.child) ls) e)) (λ o. inl o))
-    (λ new. inr (has_more l.parent m.child (map (λ x. x.child) ls) new)) (parent_among n (m.child ∷ listed) ls h.3 l k)) a
+    (λ new. inr (has-kept l.parent m.child (map (λ x. x.child) ls) new)) (parent_among n (m.child ∷ listed) ls h.3 l k)) a
 
 pub parent_listed : (n root : ℕ) (links : List Link) → HasParents n root links → (l : Link) → Among l links → has l.parent (members root links) ≡ true
 parent_listed n root links parents l a = ⊎_elim
     (λ t. has_cases l.parent root [] _ t (λ e. has_here l.parent root (map (λ m. m.child) links) e) (λ k. absurd (true≢false (sym k))))
-    (λ t. has_more l.parent root (map (λ m. m.child) links) t)
+    (λ t. has-kept l.parent root (map (λ m. m.child) links) t)
     (parent_among n (root ∷ []) links parents.extends l a)
-
-pub same_bool : (a b : Bool) → (a ≡ true → b ≡ true) → (b ≡ true → a ≡ true) → a ≡ b
-same_bool true b f g = sym (f refl)
-same_bool false true f g = g refl
-same_bool false false f g = refl
 
 module _ (s : Shape) (root : ℕ) (links : List Link) (keyed : Bool) (items : List ℕ) (edges : List SeenEdge) (T : IsTreeShape s root links keyed items edges) where
   abbrev M : List ℕ
@@ -190,7 +188,7 @@ module _ (s : Shape) (root : ℕ) (links : List Link) (keyed : Bool) (items : Li
   is_member r less = each_member (length items) root links T.parents r less
 
   pub child_member : (l : Link) → Among l links → has l.child M ≡ true
-  child_member l a = has_more l.child root (map (λ m. m.child) links) (among_child l links a)
+  child_member l a = has-kept l.child root (map (λ m. m.child) links) (among_child l links a)
 
   row_number : (r i : ℕ) → r < length items → i < get_or items r 0 → get_or (places_at s r).numbers i 0 ≡ i
   row_number r i less l = ap (λ (p : Places). get_or p.numbers i 0) (T.rows r less) ∙ omega (arith, get_or-range_with_len 0 (get_or items r 0) i 0 l)
@@ -204,7 +202,7 @@ module _ (s : Shape) (root : ℕ) (links : List Link) (keyed : Bool) (items : Li
       let exact : (places_at s a.places).kind ≡ Exact = ap (λ (k : ℕ). (places_at s k).kind) at ∙ row_exact r less in
       let number : (j : ℕ) → j < x.items → number_at s a j ≡ j = λ j k. ap (λ (p : ℕ). get_or (places_at s p).numbers j 0) at ∙ row_number r j less (omega (arith, k, size)) in
       let t = answers_number s T.valid x a a i pipe there refl exact exact in
-      same_bool (answers s (sealed s) i a) (passes s (sealed s) i x.reads)
+      same_truth (answers s (sealed s) i a) (passes s (sealed s) i x.reads)
       (λ yes_. let w = t.0 yes_ in subst (λ (j : ℕ). passes s (sealed s) j x.reads ≡ true) (sym (number w.0 w.1) ∙ w.3 ∙ number i l) w.2)
       (λ pass. t.1 (i, l, pass, refl))
 
@@ -324,7 +322,7 @@ module _ (s : Shape) (root : ℕ) (links : List Link) (keyed : Bool) (items : Li
 
     pub backward_seen : (l : Link) → Among l links → (i : ℕ) → i < get_or items l.child 0 → (edge_of links edges l).child.kind ≡ (edge_of links edges l).parent.kind
         → passes_forward s root links keyed items l.child i ≡ true → HasParent s root links keyed items edges l i → passes_backward s root links keyed items l.child i ≡ true
-    backward_seen l a i less alike pass has_it = backward_reads l a i less ∙ both _ _ pass (down_seen l a alike i has_it)
+    backward_seen l a i less alike pass has_it = backward_reads l a i less ∙ and_from _ _ pass (down_seen l a alike i has_it)
 
     pub backward_exact : (l : Link) → Among l links → (i : ℕ) → i < get_or items l.child 0 → (edge_of links edges l).child.kind ≡ Exact → (edge_of links edges l).parent.kind ≡ Exact
         → passes_backward s root links keyed items l.child i ≡ true → (passes_forward s root links keyed items l.child i ≡ true) × HasParent s root links keyed items edges l i

@@ -9,7 +9,9 @@ use mathlib.Core.List.{reverse-cons}
 use mathlib.Core.Logic.{dite}
 use native.Mathlib.Decide.{ℕ_discrete}
 use Rattle.join_graph.specs.declared.tree.Link.{Link}
-use Rattle.join_graph.specs.JoinList.{Extends, HasParents, has}
+use Rattle.join_graph.specs.JoinList.{Extends, HasParents}
+use Rattle.rpt_base.specs.Lists.{has}
+use Rattle.rpt_base.proofs.MemberFacts.{has-kept}
 use Rattle.transfer_core.specs.Counts.{only, times, total}
 use Rattle.transfer_core.proofs.Sums.{only_no, only_yes, total-append}
 use Rattle.transfer_plan.specs.declared.region.Region.{Region}
@@ -60,18 +62,11 @@ child l = l.child
 pub has_here : (x y : ℕ) (ys : List ℕ) → x ≡ y → has x (y ∷ ys) ≡ true
 has_here x y ys e = ap (λ b. b || has x ys) (eq-eqb x y e)
 
-pub or_right : (b c : Bool) → c ≡ true → (b || c) ≡ true
-or_right true c e = refl
-or_right false c e = e
-
-pub has_more : (x y : ℕ) (ys : List ℕ) → has x ys ≡ true → has x (y ∷ ys) ≡ true
-has_more x y ys e = or_right (eqb x y) (has x ys) e
-
 children_once : (n : ℕ) (listed : List ℕ) (links : List Link) → Extends n listed links → (o : ℕ) → (times o (map (λ l. l.child) links) ≤ 1) × (has o listed ≡ true → times o (map (λ l. l.child) links) ≡ 0)
 children_once n listed [] h o = (omega arith, λ _. refl)
 children_once n listed (l ∷ ls) h o = let t = children_once n (l.child ∷ listed) ls h.3 o in dite (ℕ_discrete l.child o)
     (λ e. (omega (arith, only_yes o l.child e, t.1 (has_here o l.child listed (sym e))), λ k. absurd (true≢false (sym k ∙ ap (λ (x : ℕ). has x listed) (sym e) ∙ h.1))))
-    (λ ne. (omega (arith, only_no o l.child ne, t.0), λ k. omega (arith, only_no o l.child ne, t.1 (has_more o l.child listed k))))
+    (λ ne. (omega (arith, only_no o l.child ne, t.0), λ k. omega (arith, only_no o l.child ne, t.1 (has-kept o l.child listed k))))
 
 module _ (n root : ℕ) (links : List Link) (parents : HasParents n root links) where
   pub members_once : (o : ℕ) → times o (members root links) ≤ 1

@@ -2,7 +2,7 @@
 use Rattle.std.proofs.Common.{◌≡◌, ◌↔◌, inl, inr, ℕ, ◌<◌, List, [], ◌∷◌, length, get_or, Bool, true, false, ◌||◌, ◌&&◌, true≢false, refl, not, sym, ap, ◌∙◌, arith, eqb, eq-eqb, ne_eqb}
 use Rattle.std.specs.Prelude.{Contains}
 use Rattle.std.specs.List.{list_all}
-use Rattle.std.proofs.lemmas.Bool.{cases_Bool}
+use Rattle.std.proofs.lemmas.Bool.{cases_Bool, and_from}
 use Rattle.join_graph.specs.declared.tree.Link.{Link}
 use Rattle.key_codes.specs.Placement.{Places}
 use Rattle.transfer_core.specs.Plans.{Shape}
@@ -10,7 +10,7 @@ use Rattle.transfer_core.specs.Sealed.{answers, sealed}
 use Rattle.transfer_plan.specs.declared.region.Region.TheVariants as region
 use Rattle.transfer_plan.specs.Passing.{AreAlike, AreExact, FindsChild, FindsParent, IsMade, TreePlan, kept_backward, kept_forward, sees_child, sees_parent, seen_edges, shape}
 use Rattle.transfer_plan.specs.TransferPlan.{SeenEdge, children, is_keyed, parent_of, port}
-use Rattle.transfer_plan.proofs.Earlier.{Among, both}
+use Rattle.transfer_plan.proofs.Earlier.{Among}
 use Rattle.transfer_plan.proofs.Filtered.{down_filter, up_filter}
 use Rattle.transfer_plan.proofs.Numbered.{IsTreeShape, all_backward, all_forward, among_of, backward_exact, backward_reads, backward_seen, contains_of, forward_exact, forward_reads, forward_seen, passes_top, up_read}
 use Rattle.transfer_plan.proofs.Placed.{tree_shape}
@@ -29,7 +29,7 @@ children_asked f g r (m ∷ ls) h = by (eqb m.parent r) refl (h m (inl refl)) (c
 all_asked : (g : Link → Bool) (ls : List Link) → ((l : Link) → Among l ls → g l ≡ true) → list_all g ls ≡ true
 unfolding Among
 all_asked g [] h = refl
-all_asked g (m ∷ ls) h = both (g m) (list_all g ls) (h m (inl refl)) (all_asked g ls (λ l a. h l (inr a)))
+all_asked g (m ∷ ls) h = and_from (g m) (list_all g ls) (h m (inl refl)) (all_asked g ls (λ l a. h l (inr a)))
 
 module _ {P : Type 0} (seen : P → Places) (t : TreePlan P) (made : IsMade seen t) where
   abbrev s : Shape
@@ -55,7 +55,7 @@ module _ {P : Type 0} (seen : P → Places) (t : TreePlan P) (made : IsMade seen
   passes_all none r i less l = let off : k ≡ false = ap not (eq-eqb (length t.edges) 0 none) in
       (all_forward s t.root t.links k t.items es T off r i, all_backward s t.root t.links k t.items es T off r i less l)
 
-  -- with placements of one kind at both ends, equal numbers pass
+  -- with placements of one kind at and_from ends, equal numbers pass
   pub forward_misses_none : AreAlike t.links es → length t.edges ≡ length t.links → (r i : ℕ) → ((l : Link) → Contains t.links l → l.parent ≡ r → FindsChild seen t l i) → kept_forward seen t r i ≡ true
   forward_misses_none alike as_many r i each = elim (cases_Bool (is_keyed t.edges)) [
     | inl on ↦ forward_seen s t.root t.links k t.items es T on r i

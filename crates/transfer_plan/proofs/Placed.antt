@@ -9,7 +9,7 @@ use Rattle.transfer_plan.specs.Passing.{IsMade, TreePlan, edge_of, seen_edges, s
 use Rattle.transfer_plan.specs.TransferPlan.{is_keyed, number_of, regions, words_of_region}
 use Rattle.transfer_plan.proofs.Earlier.{Among, among_child, is_child, not_root}
 use Rattle.transfer_plan.proofs.Numbered.{IsTreeShape, parent_listed}
-use Rattle.transfer_plan.proofs.Numbers.{has_more}
+use Rattle.rpt_base.proofs.MemberFacts.{has-kept}
 use Rattle.transfer_plan.proofs.Serves.{at_number, backward_keys_in, forward_keys_in}
 use Rattle.transfer_plan.proofs.Valid.{backward_words, child_is, forward_words, parent_is, row_is, valid_plan}
 
@@ -22,7 +22,7 @@ module _ {P : Type 0} (seen : P → Places) (t : TreePlan P) (made : IsMade seen
 
   forward_words_at : k ≡ true → (l : Link) → Among l t.links → words_of (shape seen t) (number_of t.root t.links k (region.ForwardKeys l.child)) ≡ (edge_of t.links (seen_edges seen t) l).forward_words
   forward_words_at on l a =
-      (at_number W (region.ForwardKeys l.child) (regions t.root t.links k) (forward_keys_in t.root t.links k l.child (has_more l.child t.root (map (λ m. m.child) t.links) (among_child l t.links a))
+      (at_number W (region.ForwardKeys l.child) (regions t.root t.links k) (forward_keys_in t.root t.links k l.child (has-kept l.child t.root (map (λ m. m.child) t.links) (among_child l t.links a))
       (not_root (length t.items) t.root t.links k t.items made.tree l a on))).1
       ∙ forward_words seen t.root t.links t.items t.edges t.rows t.morsel made.tree made.are_rows made.are_edges on l a
 

@@ -3,7 +3,8 @@ use Rattle.std.proofs.Common.{◌≡◌, inr, ℕ, zero, suc, ◌<◌, List, [],
 use Rattle.std.specs.Int.{div_ceil}
 use Rattle.std.specs.List.{range_with_len}
 use Rattle.join_graph.specs.declared.tree.Link.{Link}
-use Rattle.join_graph.specs.JoinList.{HasParents, has}
+use Rattle.join_graph.specs.JoinList.{HasParents}
+use Rattle.rpt_base.specs.Lists.{has}
 use Rattle.key_codes.specs.Placement.{Places}
 use Rattle.key_codes.specs.Placement.Kind.{Exact}
 use Rattle.transfer_core.specs.Plans.{no_places}

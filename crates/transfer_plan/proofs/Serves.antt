@@ -2,20 +2,22 @@
 use Rattle.std.proofs.Common.{◌≡◌, ◌⊎◌, inl, inr, ⊎_elim, ℕ, zero, suc, ◌+◌, ◌<◌, List, [], ◌∷◌, ◌++◌, length, map, get_or, All, Bool, true, false, ◌||◌, not, refl, sym, ap, ◌∙◌, subst, arith, cond, eqb, eq-eqb, if◌then◌else◌, true≢false, take, append_assoc}
 use Rattle.std.specs.Prelude.{reverse}
 use Rattle.std.specs.List.{flat_map, list_any, position_or_len}
-use Rattle.std.proofs.lemmas.Bool.{eqb-true}
+use Rattle.std.proofs.lemmas.Bool.{eqb-true, or_right, or_left}
 use Rattle.std.proofs.lemmas.List.{map-append, reverse-reverse, take_more}
 use Rattle.std.proofs.lemmas.List.Concat.{flat_map-cons}
 use Rattle.std.proofs.lemmas.List.Folds.{list_any-append}
 use Rattle.std.proofs.lemmas.List.Elements.{All-from_get_or}
 use Rattle.join_graph.specs.declared.tree.Link.{Link}
-use Rattle.join_graph.specs.JoinList.{Extends, HasParents, has}
+use Rattle.join_graph.specs.JoinList.{Extends, HasParents}
+use Rattle.rpt_base.specs.Lists.{has}
 use Rattle.transfer_core.specs.declared.plan.Pipe.{Pipe}
 use Rattle.transfer_core.specs.Plans.{no_pipe}
 use Rattle.transfer_plan.specs.declared.region.Region.{Region}
 use Rattle.transfer_plan.specs.declared.region.Region.TheVariants as region
 use Rattle.transfer_plan.specs.TransferPlan.{backward_pipe, backward_regions, children, forward_pipe, forward_regions, has_keys, is_same, link_of, members, no_link, pipes, regions}
-use Rattle.transfer_plan.proofs.Earlier.{Among, has_at, has_cases, has_reverse, not_listed, or_left}
-use Rattle.transfer_plan.proofs.Numbers.{has_here, has_more, or_right}
+use Rattle.transfer_plan.proofs.Earlier.{Among, has_at, has_cases, has_reverse, not_listed}
+use Rattle.transfer_plan.proofs.Numbers.{has_here}
+use Rattle.rpt_base.proofs.MemberFacts.{has-kept}
 
 -- a list that grows by what the next member gives
 pub map_more : {A : Type 0} (f : ℕ → A) (xs : List ℕ) (i : ℕ) (before old now : List A) (x : A) → i < length xs → now ≡ old ++ x ∷ [] → old ≡ before ++ map f (take i xs) → x ≡ f (get_or xs i 0) → now ≡ before ++ map f (take (i + 1) xs)
@@ -97,7 +99,7 @@ module _ (root : ℕ) (links : List Link) (keyed : Bool) where
 pub each_map : {A : Type 0} (f : ℕ → A) (Q : A → Type 0) (d : A) (rs : List ℕ) → ((r : ℕ) → has r rs ≡ true → Q (f r)) → (p : ℕ) → p < length (map f rs) → Q (get_or (map f rs) p d)
 each_map f Q d [] h p l = absurd (omega arith)
 each_map f Q d (r ∷ rs) h zero l = h r (has_here r r rs refl)
-each_map f Q d (r ∷ rs) h (suc p) l = each_map f Q d rs (λ o k. h o (has_more o r rs k)) p (omega arith)
+each_map f Q d (r ∷ rs) h (suc p) l = each_map f Q d rs (λ o k. h o (has-kept o r rs k)) p (omega arith)
 
 pub each_append : {A : Type 0} (Q : A → Type 0) (d : A) (xs ys : List A) → ((p : ℕ) → p < length xs → Q (get_or xs p d)) → ((p : ℕ) → p < length ys → Q (get_or ys p d)) → (p : ℕ) → p < length (xs ++ ys) → Q (get_or (xs ++ ys) p d)
 each_append Q d [] ys f g p l = g p l
@@ -107,7 +109,7 @@ each_append Q d (x ∷ xs) ys f g (suc p) l = each_append Q d xs ys (λ k m. f (
 pub each_flat : {A : Type 0} (Q : A → Type 0) (d : A) (G : ℕ → List A) (rs : List ℕ) → ((r : ℕ) → has r rs ≡ true → (p : ℕ) → p < length (G r) → Q (get_or (G r) p d)) → (p : ℕ) → p < length (flat_map G rs) → Q (get_or (flat_map G rs) p d)
 each_flat Q d G [] h p l = absurd (omega arith)
 each_flat {A = A} Q d G (r ∷ rs) h p l = subst (λ (ys : List A). (k : ℕ) → k < length ys → Q (get_or ys k d)) (sym (flat_map-cons G r rs))
-    (each_append Q d (G r) (flat_map G rs) (h r (has_here r r rs refl)) (each_flat Q d G rs (λ o k. h o (has_more o r rs k)))) p l
+    (each_append Q d (G r) (flat_map G rs) (h r (has_here r r rs refl)) (each_flat Q d G rs (λ o k. h o (has-kept o r rs k)))) p l
 
 pub each_pipe : (root : ℕ) (links : List Link) (keyed : Bool) (items : List ℕ) (Q : Pipe → Type 0) → ((r : ℕ) → has r (members root links) ≡ true → Q (forward_pipe root links keyed items r)) → ((r : ℕ) → has r (members root links) ≡ true → Q (backward_pipe root links keyed items r))
     → (p : ℕ) → p < length (pipes root links keyed items) → Q (get_or (pipes root links keyed items) p no_pipe)

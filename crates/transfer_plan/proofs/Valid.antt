@@ -4,7 +4,7 @@ use Rattle.std.specs.Prelude.{reverse}
 use Rattle.std.specs.Int.{div_ceil}
 use Rattle.std.specs.List.{flat_map, list_all, list_any, range_with_len}
 use Rattle.std.proofs.Math.Nat.{le-max_left, le-max_right}
-use Rattle.std.proofs.lemmas.Bool.{and_parts, lt-ltb, le-leb}
+use Rattle.std.proofs.lemmas.Bool.{and_parts, lt-ltb, le-leb, and_from}
 use Rattle.std.proofs.lemmas.List.{get_or-map, length-map, map-append, get_or-append-add, get_or_append_left, length-reverse, reverse-reverse}
 use Rattle.std.proofs.lemmas.List.Concat.{flat_map-cons}
 use Rattle.std.proofs.lemmas.List.Folds.{list_all-map}
@@ -14,7 +14,8 @@ use native.Mathlib.Decide.{dec_le}
 use Rattle.rpt_base.specs.Limits.{IsMorsel}
 use Rattle.join_graph.specs.declared.tree.Link.{Link}
 use Rattle.join_graph.specs.declared.tree.Tree.{Tree}
-use Rattle.join_graph.specs.JoinList.{Extends, HasParents, has}
+use Rattle.join_graph.specs.JoinList.{Extends, HasParents}
+use Rattle.rpt_base.specs.Lists.{has}
 use Rattle.key_codes.specs.Placement.{Places}
 use Rattle.key_codes.specs.Placement.Kind.{Exact}
 use Rattle.transfer_core.specs.Counts.{times}
@@ -28,8 +29,9 @@ use Rattle.transfer_plan.specs.declared.plan.Edge.{Edge}
 use Rattle.transfer_plan.specs.declared.region.Region.{Region}
 use Rattle.transfer_plan.specs.declared.region.Region.TheVariants as region
 use Rattle.transfer_plan.specs.TransferPlan.{AreEdges, AreParts, AreRows, SeenEdge, ServesLink, backward_pipe, backward_regions, child_of, children, edge_words, forward_pipe, forward_regions, has_keys, is_keyed, is_same, link_of, members, no_edge, no_link, parent_of, pipes, port, regions, row_words, seen_edge, transfer_plan, words_of_region}
-use Rattle.transfer_plan.proofs.Earlier.{Among, all_children, among_child, both, has_reverse, is_child, not_root, parent_listed, reads_earlier}
-use Rattle.transfer_plan.proofs.Numbers.{has_more, members_once}
+use Rattle.transfer_plan.proofs.Earlier.{Among, all_children, among_child, has_reverse, is_child, not_root, parent_listed, reads_earlier}
+use Rattle.transfer_plan.proofs.Numbers.{members_once}
+use Rattle.rpt_base.proofs.MemberFacts.{has-kept}
 use Rattle.transfer_plan.proofs.Serves.{at_number, backward_in, backward_keys_in, each_append, each_flat, each_pipe, child_link, each_map, forward_in, forward_keys_in, link_at, link_with, member_child, member_within}
 use Rattle.transfer_plan.proofs.Written.{written_once}
 
@@ -119,7 +121,7 @@ module _ {P : Type 0} (seen : P → Places) where
   words_in (e ∷ es) (suc k) l = words_in es k (omega arith)
 
 serves_if : (s : Shape) (items : ℕ) (a : Port) → a.region < length s.words → a.places < length s.places → length (places_at s a.places).numbers ≡ items → (places_at s a.places).least ≤ words_of s a.region → serves s items a ≡ true
-serves_if s items a r p n l = both _ _ (both _ _ (both _ _ (lt-ltb _ _ r) (lt-ltb _ _ p)) (eq-eqb _ _ n)) (le-leb _ _ l)
+serves_if s items a r p n l = and_from _ _ (and_from _ _ (and_from _ _ (lt-ltb _ _ r) (lt-ltb _ _ p)) (eq-eqb _ _ n)) (le-leb _ _ l)
 
 is_on : (n : ℕ) → not (eqb n 0) ≡ true → n ≡ 0 → ⊥
 is_on n h e = true≢false (sym h ∙ ap not (eq-eqb n 0 e))
@@ -213,7 +215,7 @@ module _ {P : Type 0} (seen : P → Places) (root : ℕ) (links : List Link) (it
     parent_fits x listed least = fits x (parent_of root links keyed items l.child) (get_or items l.parent 0) edge.parent listed (omega (arith, inside, places_long)) parent_is served.parent least
 
   child_listed : (l : Link) → Among l links → has l.child M ≡ true
-  child_listed l a = has_more l.child root (map (λ m. m.child) links) (among_child l links a)
+  child_listed l a = has-kept l.child root (map (λ m. m.child) links) (among_child l links a)
 
   -- forward
   forward_reads : (r : ℕ) → has r M ≡ true → list_all (serves S (get_or items r 0)) (forward_pipe root links keyed items r).reads ≡ true
@@ -236,11 +238,11 @@ module _ {P : Type 0} (seen : P → Places) (root : ℕ) (links : List Link) (it
       go true on =
           let parts = and_parts keyed (not (eqb r root)) on in
           let t = link_with r links (member_child r root (map (λ l. l.child) links) h parts.1) in
-          both _ true (subst (λ (o : ℕ). serves S (get_or items o 0) (port root links keyed (x o) (child_of root links keyed items o)) ≡ true) t.2 (fit t.0 t.1 parts.0)) refl
+          and_from _ true (subst (λ (o : ℕ). serves S (get_or items o 0) (port root links keyed (x o) (child_of root links keyed items o)) ≡ true) t.2 (fit t.0 t.1 parts.0)) refl
       go false off = refl
 
   forward_writes : (r : ℕ) → has r M ≡ true → list_all (serves S (get_or items r 0)) (forward_pipe root links keyed items r).writes ≡ true
-  forward_writes r h = both _ _ (row_fits (region.Forward r) r h (forward_in root links keyed r h) refl)
+  forward_writes r h = and_from _ _ (row_fits (region.Forward r) r h (forward_in root links keyed r h) refl)
       (own_keys region.ForwardKeys r h (λ l a on. child_fits on l a (region.ForwardKeys l.child) (forward_keys_in root links keyed l.child (child_listed l a) (not_root (length items) root links keyed items parents l a on))
       (omega (arith, forward_words on l a, (served on l a).forward_child))))
 
@@ -249,12 +251,12 @@ module _ {P : Type 0} (seen : P → Places) (root : ℕ) (links : List Link) (it
   parent_of_link l a = parent_listed (length items) (root ∷ []) (root ∷ []) links parents.extends (λ o k. k) l a
 
   backward_reads : (r : ℕ) → has r M ≡ true → list_all (serves S (get_or items r 0)) (backward_pipe root links keyed items r).reads ≡ true
-  backward_reads r h = both _ _ (row_fits (region.Forward r) r h (forward_in root links keyed r h) refl)
+  backward_reads r h = and_from _ _ (row_fits (region.Forward r) r h (forward_in root links keyed r h) refl)
       (own_keys region.BackwardKeys r h (λ l a on. child_fits on l a (region.BackwardKeys l.child) (backward_keys_in root links keyed l.parent l.child (parent_of_link l a) on (is_child l links a))
       (omega (arith, backward_words on l a, (served on l a).backward_child))))
 
   backward_writes : (r : ℕ) → has r M ≡ true → list_all (serves S (get_or items r 0)) (backward_pipe root links keyed items r).writes ≡ true
-  backward_writes r h = both _ _ (row_fits (region.Backward r) r h (backward_in root links keyed r h) refl) (go keyed refl)
+  backward_writes r h = and_from _ _ (row_fits (region.Backward r) r h (backward_in root links keyed r h) refl) (go keyed refl)
     where
       go : (k : Bool) → keyed ≡ k → list_all (serves S (get_or items r 0)) (if k then map (λ c. port root links keyed (region.BackwardKeys c) (parent_of root links keyed items c)) (children links r) else []) ≡ true
       go true on = list_all-map (serves S (get_or items r 0)) (λ c. port root links keyed (region.BackwardKeys c) (parent_of root links keyed items c)) (children links r)

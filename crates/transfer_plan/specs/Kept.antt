@@ -2,7 +2,8 @@
 --
 -- Of the pipes that write with a relation's placement of rows the latest says so, by the last of the regions that it writes
 -- with it: an item is kept where this region, as sealed, has its bit.
-use Rattle.std.specs.Prelude.{ℕ, ◌*◌, ◌/◌, ◌%◌, ◌^◌, ◌<◌, ◌≤◌, ◌==◌, Bool, List, [], ◌∷◌, IsTrue, bit_and, count_by, filter, length, map, slice_index, slice_index_or}
+use Rattle.std.specs.Prelude.{ℕ, ◌*◌, ◌/◌, ◌%◌, ◌^◌, ◌<◌, ◌≤◌, ◌==◌, Bool, List, [], ◌∷◌, IsTrue, bit_and, count_by, filter}
+use Rattle.std.specs.Prelude.{length, map, slice_index, slice_index_or}
 use Rattle.std.specs.List.{flat_map, list_any, range_with_len}
 use Rattle.transfer_core.specs.declared.plan.Pipe.{Pipe}
 use Rattle.transfer_core.specs.declared.plan.Port.{Port}

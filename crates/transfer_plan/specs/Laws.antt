@@ -7,7 +7,8 @@ use Rattle.key_codes.specs.Placement.{Places}
 use Rattle.transfer_core.specs.Plans.{are_written, writers_of}
 use Rattle.transfer_plan.specs.declared.region.Region.TheVariants as region
 use Rattle.transfer_plan.specs.Kept.{CanTell, Written, is_kept, kept_among}
-use Rattle.transfer_plan.specs.Passing.{AreAlike, AreExact, FindsChild, FindsParent, TreePlan, kept_backward, kept_forward, run_of, seen_edges, sees_child, sees_parent}
+use Rattle.transfer_plan.specs.Passing.{AreAlike, AreExact, FindsChild, FindsParent, TreePlan, kept_backward, kept_forward}
+use Rattle.transfer_plan.specs.Passing.{run_of, seen_edges, sees_child, sees_parent}
 use Rattle.transfer_plan.specs.TransferPlan.{is_keyed, number_of, pipes, regions}
 
 -- the regions of a tree's plan, with keys or without, and its pipes for whatever items

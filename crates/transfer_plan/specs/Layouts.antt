@@ -9,7 +9,8 @@ use Rattle.transfer_core.specs.declared.plan.Port.{Port}
 use Rattle.transfer_plan.specs.declared.layout.Layout.{Layout}
 use Rattle.transfer_plan.specs.declared.region.Region.{Region}
 use Rattle.transfer_plan.specs.declared.region.Region.TheVariants as region
-use Rattle.transfer_plan.specs.TransferPlan.{backward_pipe, backward_regions, child_of, forward_pipe, forward_regions, has_keys, members, parent_of, pipes, port, regions}
+use Rattle.transfer_plan.specs.TransferPlan.{backward_pipe, backward_regions, child_of, forward_pipe, forward_regions, has_keys}
+use Rattle.transfer_plan.specs.TransferPlan.{members, parent_of, pipes, port, regions}
 
 -- the regions that the forward and the backward pipe of a relation write, and those of these relations
 abbrev pub forward_own : Tree → Bool → ℕ → List Region

@@ -8,7 +8,8 @@ use Rattle.transfer_core.specs.Plans.{Shape, shape_of}
 use Rattle.transfer_core.specs.Sealed.{or_below, passes, sealed}
 use Rattle.transfer_plan.specs.declared.plan.Edge.{Edge}
 use Rattle.transfer_plan.specs.Kept.{Run, sealed_run}
-use Rattle.transfer_plan.specs.TransferPlan.{AreParts, SeenEdge, backward_pipe, forward_pipe, is_keyed, link_of, no_edge, seen_edge, transfer_plan}
+use Rattle.transfer_plan.specs.TransferPlan.{AreParts, SeenEdge, backward_pipe, forward_pipe, is_keyed, link_of, no_edge}
+use Rattle.transfer_plan.specs.TransferPlan.{seen_edge, transfer_plan}
 
 -- the edge of a link
 abbrev pub edge_of : List Link → List SeenEdge → Link → SeenEdge
@@ -32,7 +33,8 @@ AreExact links edges =
 -- stand in this word.
 abbrev pub filter_word : Kind → ℕ → List ℕ → ℕ → (ℕ → Bool) → ℕ → ℕ
 filter_word kind words numbers items passes w =
-    or_below (λ j. let place = place_of_number kind (slice_index numbers j) words in cond (passes j && (place.word == w)) place.mask 0) items
+    or_below (λ j. let place = place_of_number kind (slice_index numbers j) words in
+    cond (passes j && (place.word == w)) place.mask 0) items
 
 -- the filter answers yes for a number
 abbrev pub filter_has : Kind → ℕ → List ℕ → ℕ → (ℕ → Bool) → ℕ → Bool

@@ -4,7 +4,8 @@
 -- rows that pass and, unless it is the root, their keys for its parent. Backward, from the root to the end of the list, the pipe of a
 -- relation reads the rows that passed forward and, unless it is the root, the keys that its parent wrote for it. It writes the rows that
 -- are kept, and their keys for each child. Regions are numbered as they are written. With no edges there are no keys.
-use Rattle.std.specs.Prelude.{◌≡◌, ◌⊎◌, ℕ, ◌+◌, ◌*◌, ◌<◌, ◌≤◌, ◌==◌, ◌&&◌, not, Bool, false, List, [], ◌∷◌, ◌++◌, filter, if◌then◌else◌, length, map, max, reverse, slice_index, slice_index_or}
+use Rattle.std.specs.Prelude.{◌≡◌, ◌⊎◌, ℕ, ◌+◌, ◌*◌, ◌<◌, ◌≤◌, ◌==◌, ◌&&◌, not, Bool, false, List, [], ◌∷◌, ◌++◌, filter}
+use Rattle.std.specs.Prelude.{if◌then◌else◌, length, map, max, reverse, slice_index, slice_index_or}
 use Rattle.std.specs.Int.{div_ceil}
 use Rattle.std.specs.List.{flat_map, position_or_len, range_with_len}
 use Rattle.rpt_base.specs.Limits.{IsMorsel}
@@ -181,7 +182,8 @@ pub record AreEdges {P : Type 0} (seen : P → Places) (links : List Link) (item
       → ServesLink items (slice_index_or links k no_link) (slice_index_or (map (seen_edge seen) edges) k no_edge)
 
 -- the parts of a plan of at most 64 relations
-pub record AreParts {P : Type 0} (seen : P → Places) (t : Tree) (items : List ℕ) (edges : List (Edge P)) (rows : List P) (morsel : ℕ) : Type 0 where
+pub record AreParts {P : Type 0} (seen : P → Places) (t : Tree) (items : List ℕ)
+    (edges : List (Edge P)) (rows : List P) (morsel : ℕ) : Type 0 where
   pub few : length items ≤ 64
   pub tree : HasParents (length items) t.root t.links
   pub is_morsel : IsMorsel morsel

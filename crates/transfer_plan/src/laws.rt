@@ -2,7 +2,8 @@
 ghost use Rattle.std.specs.Prelude.{◌≡◌, ℕ, List, length};
 ghost use Rattle.join_graph.specs.declared.tree.Link.{Link};
 ghost use Rattle.join_graph.specs.JoinList.{HasParents};
-ghost use Rattle.transfer_plan.specs.Laws.{HasAlikeEdges, HasExactEdges, KeepsAtRoot, KeepsBackward, NumbersRegions, PassesAll, PassesByFilters, PassesByNumbers, PassesFound};
+ghost use Rattle.transfer_plan.specs.Laws.{HasAlikeEdges, HasExactEdges, KeepsAtRoot, KeepsBackward, NumbersRegions, PassesAll};
+ghost use Rattle.transfer_plan.specs.Laws.{PassesByFilters, PassesByNumbers, PassesFound};
 ghost use Rattle.transfer_plan.specs.Passing.{IsMade, TreePlan};
 
 use key_codes::Placement;

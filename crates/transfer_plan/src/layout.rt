@@ -25,13 +25,9 @@ pub(crate) fn members(alloc: Global, tree: &Tree) -> Result<Vec<u32>, Memory>
     ensures { IfOk result (λ list. list.items ≡ members tree.now.root tree.now.links) }
 {
     let mut members = Vec::new(alloc);
-    if members.push(tree.root).is_err() {
-        return Err(Memory);
-    }
+    members.push(tree.root)?;
     for link in tree.links.as_slice() {
-        if members.push(link.child).is_err() {
-            return Err(Memory);
-        }
+        members.push(link.child)?;
     }
     Ok(members)
 }
@@ -40,10 +36,7 @@ pub(crate) fn members(alloc: Global, tree: &Tree) -> Result<Vec<u32>, Memory>
 pub(crate) fn reversed(alloc: Global, members: &[u32]) -> Result<Vec<u32>, Memory>
     ensures { IfOk result (λ list. list.items ≡ reverse members.now) }
 {
-    match members.iter().rev().copied().collect(alloc) {
-        Ok(list) => Ok(list),
-        Err(_) => Err(Memory),
-    }
+    Ok(members.iter().rev().copied().collect(alloc)?)
 }
 
 /// The children of a relation, in the list's order.
@@ -55,10 +48,7 @@ pub(crate) fn children(alloc: Global, links: &[Link], relation: u32) -> Result<V
         .filter(|link| link.parent == relation)
         .map(|link| link.child)
         .collect(alloc);
-    match list {
-        Ok(list) => Ok(list),
-        Err(_) => Err(Memory),
-    }
+    Ok(list?)
 }
 
 // Whether two regions are for the same.

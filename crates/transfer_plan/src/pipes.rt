@@ -1,6 +1,7 @@
 // The pipes of a tree's plan.
 ghost use Rattle.std.specs.Prelude.{◌≡◌, [], ◌∷◌, ◌++◌, ◌<◌, All, IfOk, OnOk, length, map, reverse};
-ghost use Rattle.transfer_plan.specs.Layouts.{IsLayout, backward_of, forward_of, keys_backward, keys_forward, members_of, own_ports, pipe_of, pipes_of};
+ghost use Rattle.transfer_plan.specs.Layouts.{IsLayout, backward_of, forward_of, keys_backward, keys_forward, members_of};
+ghost use Rattle.transfer_plan.specs.Layouts.{own_ports, pipe_of, pipes_of};
 
 use crate::layout::{Layout, children, has_keys};
 use crate::region::Region;
@@ -38,9 +39,7 @@ fn add_upward(
     ensures { OnOk result (pipes.new.items ≡ pipes.old.items ++ map (forward_of layout.now) members.now) }
 {
     for relation in members {
-        if pipes.push(layout.forward_pipe(alloc, *relation)?).is_err() {
-            return Err(Memory);
-        }
+        pipes.push(layout.forward_pipe(alloc, *relation)?)?;
     }
     Ok(())
 }
@@ -57,21 +56,9 @@ fn add_downward(
     ensures { OnOk result (pipes.new.items ≡ pipes.old.items ++ map (backward_of layout.now) members.now) }
 {
     for relation in members {
-        if pipes.push(layout.backward_pipe(alloc, *relation)?).is_err() {
-            return Err(Memory);
-        }
+        pipes.push(layout.backward_pipe(alloc, *relation)?)?;
     }
     Ok(())
-}
-
-// Adds a port.
-fn add(ports: &mut Vec<Port>, port: Port) -> Result<(), Memory>
-    ensures { OnOk result (ports.new.items ≡ ports.old.items ++ port ∷ []) }
-{
-    match ports.push(port) {
-        Ok(()) => Ok(()),
-        Err(_) => Err(Memory),
-    }
 }
 
 impl Layout<'_> {
@@ -104,11 +91,11 @@ impl Layout<'_> {
         ensures { IfOk result (λ ports. ports.items ≡ own_ports self.now relation keys) }
     {
         let mut ports = Vec::new(alloc);
-        add(&mut ports, self.port(Region::Forward(relation), relation))?;
+        ports.push(self.port(Region::Forward(relation), relation))?;
         if !has_keys(self.tree, self.keyed, relation) {
             return Ok(ports);
         }
-        add(&mut ports, self.port(keys, self.child_of(relation)))?;
+        ports.push(self.port(keys, self.child_of(relation)))?;
         Ok(ports)
     }
 
@@ -132,7 +119,7 @@ impl Layout<'_> {
         ensures { IfOk result (λ ports. ports.items ≡ (backward_of self.now relation).writes) }
     {
         let mut ports = Vec::new(alloc);
-        add(&mut ports, self.port(Region::Backward(relation), relation))?;
+        ports.push(self.port(Region::Backward(relation), relation))?;
         if !self.keyed {
             return Ok(ports);
         }
@@ -160,7 +147,7 @@ impl Layout<'_> {
     {
         for child in children {
             let keys = self.port(Region::ForwardKeys(*child), self.parent_of(*child));
-            add(ports, keys)?;
+            ports.push(keys)?;
         }
         Ok(())
     }
@@ -172,7 +159,7 @@ impl Layout<'_> {
     {
         for child in children {
             let keys = self.port(Region::BackwardKeys(*child), self.parent_of(*child));
-            add(ports, keys)?;
+            ports.push(keys)?;
         }
         Ok(())
     }

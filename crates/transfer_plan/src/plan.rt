@@ -1,5 +1,5 @@
 // The plan of a tree.
-ghost use Rattle.std.specs.Prelude.{◌≡◌, ◌∷◌, [], ◌++◌, ℕ, IfOk, OnOk, map, slice_index};
+ghost use Rattle.std.specs.Prelude.{◌≡◌, ◌∷◌, [], ◌++◌, ℕ, IfOk, map, slice_index};
 ghost use Rattle.transfer_core.specs.Plans.{IsValid, shape_of};
 ghost use Rattle.transfer_plan.specs.TransferPlan.{AreParts, edge_places, row_words, transfer_plan, words_of_region};
 
@@ -76,9 +76,7 @@ fn words<P>(
     let mut words = Vec::new(alloc);
     for region in regions {
         let count = words_of(links, items, edges, *region);
-        if words.push(count).is_err() {
-            return Err(Memory);
-        }
+        words.push(count)?;
     }
     Ok(words)
 }
@@ -122,18 +120,8 @@ fn places<P: Drop>(rows: Vec<P>, edges: Vec<Edge<P>>) -> Result<Vec<P>, Memory>
             forward_words: _,
             backward_words: _,
         } = edge;
-        add(&mut places, child)?;
-        add(&mut places, parent)?;
+        places.push(child)?;
+        places.push(parent)?;
     }
     Ok(places)
-}
-
-// Adds a placement.
-fn add<P: Drop>(places: &mut Vec<P>, place: P) -> Result<(), Memory>
-    ensures { OnOk result (places.new.items ≡ places.old.items ++ place ∷ []) }
-{
-    match places.push(place) {
-        Ok(()) => Ok(()),
-        Err(_) => Err(Memory),
-    }
 }

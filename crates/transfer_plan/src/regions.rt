@@ -68,11 +68,12 @@ fn add_forward(
 ) -> Result<(), Memory>
     ensures { OnOk result (regions.new.items ≡ regions.old.items ++ forward_own tree.now keyed relation) }
 {
-    add(regions, Region::Forward(relation))?;
+    regions.push(Region::Forward(relation))?;
     if !has_keys(tree, keyed, relation) {
         return Ok(());
     }
-    add(regions, Region::ForwardKeys(relation))
+    regions.push(Region::ForwardKeys(relation))?;
+    Ok(())
 }
 
 // Adds the regions that a relation's backward pipe writes.
@@ -85,7 +86,7 @@ fn add_backward(
 ) -> Result<(), Memory>
     ensures { OnOk result (regions.new.items ≡ regions.old.items ++ backward_own tree.now keyed relation) }
 {
-    add(regions, Region::Backward(relation))?;
+    regions.push(Region::Backward(relation))?;
     if !keyed {
         return Ok(());
     }
@@ -98,17 +99,7 @@ fn add_keys(regions: &mut Vec<Region>, children: &[u32]) -> Result<(), Memory>
     ensures { OnOk result (regions.new.items ≡ regions.old.items ++ map region.BackwardKeys children.now) }
 {
     for child in children {
-        add(regions, Region::BackwardKeys(*child))?;
+        regions.push(Region::BackwardKeys(*child))?;
     }
     Ok(())
-}
-
-// Adds a region.
-fn add(regions: &mut Vec<Region>, region: Region) -> Result<(), Memory>
-    ensures { OnOk result (regions.new.items ≡ regions.old.items ++ region ∷ []) }
-{
-    match regions.push(region) {
-        Ok(()) => Ok(()),
-        Err(_) => Err(Memory),
-    }
 }

@@ -1,6 +1,6 @@
+use Rattle.binder.specs.Binding.{relation_output}
 use Rattle.binder.proofs.GatherFacts.{IsGatheredByNumber}
-use Rattle.binder.proofs.ShownFacts.{shown_source}
 use Rattle.binder.proofs.shown.add_all.Given as goal
 
-abbrev pub invariant-loop-number : goal.invariant-loop-number
-invariant-loop-number l = IsGatheredByNumber (shown_source l.script.tables) l.script.select.sources l.fn.shown.items l.shown.items l.number
+abbrev pub invariant-loop-relation : goal.invariant-loop-relation
+invariant-loop-relation l = IsGatheredByNumber relation_output l.scope l.fn.shown.items l.shown.items l.relation

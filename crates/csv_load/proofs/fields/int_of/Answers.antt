@@ -1,4 +1,5 @@
-use Rattle.csv_load.proofs.NumberFacts.{not_parsed, numeral-from, parsed, signed_utf8}
+use Rattle.csv_load.proofs.NumberFacts.{not_parsed, parsed, signed_utf8}
+use Rattle.column_table.proofs.FieldFacts.{numeral-from}
 use Rattle.csv_load.proofs.fields.int_of.Goals as goal
 
 pub returns-in-Ok-parse : goal.returns-in-Ok-parse

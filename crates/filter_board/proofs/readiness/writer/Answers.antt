@@ -1,5 +1,6 @@
 use Rattle.std.proofs.Common.{◌∙◌, arith, sym}
-use Rattle.filter_board.proofs.ListFacts.{writer_here, writer_next, writer_past}
+use Rattle.filter_board.proofs.ListFacts.{writer_past}
+use Rattle.transfer_core.proofs.AllowedFacts.{writer_next, writer_here}
 use Rattle.filter_board.proofs.readiness.writer.Goals as goal
 
 pub returns-then-writes : goal.returns-then-writes

@@ -1,16 +1,15 @@
-use Rattle.std.proofs.Common.{rules, ◌≡◌, ◌<◌, [], ◌∷◌, ◌++◌, true, length, sym, ap, ◌∙◌, subst, append_assoc}
-use Rattle.std.specs.Result.{is_ok}
+use Rattle.std.proofs.Common.{◌≡◌, ◌<◌, [], ◌∷◌, ◌++◌, length, sym, ap, ◌∙◌, subst, append_assoc}
 use Rattle.join_graph.specs.JoinList.{listed_by, set_of}
 use Rattle.largest_root.specs.Steps.{IsBestOf, IsUsedUp}
 use Rattle.join_graph.proofs.Unlisted.{unlisted}
 use Rattle.largest_root.proofs.GrowthFacts.{steps-more, steps-end, unlisted-falls}
 use Rattle.largest_root.proofs.growth.grow_set.Goals as goal
 
-best : (c : goal.Else-is_err) → IsBestOf c.args.graph.now c.args.sizes.now (set_of c.args.set) (listed_by (c.args.root ∷ []) c.loop-link.links.items) (length c.args.graph.now) c.in-Some.link
+best : (c : goal.In_ok-push) → IsBestOf c.args.graph.now c.args.sizes.now (set_of c.args.set) (listed_by (c.args.root ∷ []) c.loop-link.links.items) (length c.args.graph.now) c.in-Some.link
 best c = subst (λ z. IsBestOf c.args.graph.now c.args.sizes.now (set_of c.args.set) (listed_by (c.args.root ∷ []) z) (length c.args.graph.now) c.in-Some.link) c.deref.ensures.value c.in-Some.ensures
 
-pushed : (c : goal.Else-is_err) → c.push.new.self.items ≡ c.loop-link.links.items ++ c.in-Some.link ∷ []
-pushed c = let good : is_ok c.push.result ≡ true = search rules in rw good at c.push.ensures.items
+pushed : (c : goal.In_ok-push) → c.push.new.self.items ≡ c.loop-link.links.items ++ c.in-Some.link ∷ []
+pushed c = c.in_ok-push.ensures.items
 
 pub loop-link-smaller : goal.loop-link-smaller
 loop-link-smaller c =

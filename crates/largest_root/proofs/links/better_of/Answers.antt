@@ -1,5 +1,6 @@
 use Rattle.std.proofs.Common.{◌≡◌, [], ◌∷◌, true, false, refl}
-use Rattle.join_graph.specs.JoinList.{has, listed_by, set_of}
+use Rattle.join_graph.specs.JoinList.{listed_by, set_of}
+use Rattle.rpt_base.specs.Lists.{has}
 use Rattle.largest_root.proofs.BestFacts.{best-next}
 use Rattle.largest_root.proofs.links.better_of.Goals as goal
 

@@ -1,5 +1,6 @@
 use Rattle.std.proofs.Common.{◌≡◌, ◌<◌, length, true, [], ◌∷◌}
-use Rattle.join_graph.specs.JoinList.{has, listed_by}
+use Rattle.join_graph.specs.JoinList.{listed_by}
+use Rattle.rpt_base.specs.Lists.{has}
 use Rattle.largest_root.specs.Steps.{IsBestParent}
 use Rattle.largest_root.proofs.parents.best_parent.Given as goal
 

@@ -2,7 +2,7 @@ use Rattle.std.proofs.Common.{◌∙◌, ap, subst, sym, arith, length, List, �
 use Rattle.std.specs.Prelude.{IfSome, None, replicate}
 use Rattle.std.proofs.lemmas.List.{take-replicate}
 use Rattle.join_graph.specs.JoinList.{IsAcyclic}
-use Rattle.safe_subjoin.specs.SafeOrder.{IsOrder}
+use Rattle.rpt_base.specs.Orders.{IsOrder}
 use Rattle.plan_report.specs.Report.{report_of}
 use Rattle.rpt_engine.specs.Planned.{no_sizes}
 use Rattle.rpt_cli.proofs.PlannedFacts.{plan-unsized, report-Gives}
@@ -21,22 +21,22 @@ report_on-requires-clause-plan c =
     let bound = c.args.ready.now.bound in
     let sets = bound.known.sets in
     let is =
-    plan-unsized c.args.ready.now.prepared.graph bound.known.sets _ c.args.ready.now.options.order c.in-Ok.plan c.requires.graph
+    plan-unsized c.args.ready.now.prepared.graph bound.known.sets _ c.args.ready.now.options.order c.in_ok-plan.plan c.requires.graph
     (take-replicate c.relations-relations.result 16 0 (omega (arith, c.relations-relations.ensures.count, c.relations-relations.ensures.limit))
-    ∙ ap (λ (n : ℕ). replicate n 0) (c.relations-relations.ensures.count ∙ sym c.relations-relations.ensures.sets)) c.in-Ok.ensures.plan in
+    ∙ ap (λ (n : ℕ). replicate n 0) (c.relations-relations.ensures.count ∙ sym c.relations-relations.ensures.sets)) c.in_ok-plan.ensures.plan in
     let order = c.args.ready.now.options.order in (
       no_sizes sets,
-      plan-seen sets (no_sizes sets) order c.in-Ok.plan c.as_slice-order.result.now c.as_slice-lists.result.now c.as_slice-order.ensures c.as_slice-lists.ensures is,
+      plan-seen sets (no_sizes sets) order c.in_ok-plan.plan c.as_slice-order.result.now c.as_slice-lists.result.now c.as_slice-order.ensures c.as_slice-lists.ensures is,
     )
 
-pub returns-in-Ok-report_on : goal.returns-in-Ok-report_on
-returns-in-Ok-report_on c =
+pub returns : goal.returns
+returns c =
     let bound = c.args.ready.now.bound in
     let is =
-    plan-unsized c.args.ready.now.prepared.graph bound.known.sets _ c.args.ready.now.options.order c.in-Ok.plan c.requires.graph
+    plan-unsized c.args.ready.now.prepared.graph bound.known.sets _ c.args.ready.now.options.order c.in_ok-plan.plan c.requires.graph
     (take-replicate c.relations-relations.result 16 0 (omega (arith, c.relations-relations.ensures.count, c.relations-relations.ensures.limit))
-    ∙ ap (λ (n : ℕ). replicate n 0) (c.relations-relations.ensures.count ∙ sym c.relations-relations.ensures.sets)) c.in-Ok.ensures.plan in
-    report-Gives c.has_plan.ensures.one bound c.args.ready.now.options.order c.in-Ok.plan c.in-Ok-report_on.text.items is
-    (c.in-Ok-report_on.ensures
-    ∙ ap (λ (o : List ℕ). report_of bound.query bound.known c.in-Ok.plan.tree o c.as_slice-lists.result.now None) c.as_slice-order.ensures
-    ∙ ap (λ lists. report_of bound.query bound.known c.in-Ok.plan.tree c.in-Ok.plan.order lists None) c.as_slice-lists.ensures)
+    ∙ ap (λ (n : ℕ). replicate n 0) (c.relations-relations.ensures.count ∙ sym c.relations-relations.ensures.sets)) c.in_ok-plan.ensures.plan in
+    report-Gives c.has_plan.ensures.one bound c.args.ready.now.options.order c.in_ok-plan.plan c.in_ok-text.text.items is
+    (c.in_ok-text.ensures
+    ∙ ap (λ (o : List ℕ). report_of bound.query bound.known c.in_ok-plan.plan.tree o c.as_slice-lists.result.now None) c.as_slice-order.ensures
+    ∙ ap (λ lists. report_of bound.query bound.known c.in_ok-plan.plan.tree c.in_ok-plan.plan.order lists None) c.as_slice-lists.ensures)

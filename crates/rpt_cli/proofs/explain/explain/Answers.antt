@@ -6,9 +6,9 @@ use Rattle.rpt_cli.specs.Command.{explain_text}
 use Rattle.rpt_cli.specs.Course.{Ends}
 use Rattle.rpt_cli.proofs.explain.explain.Goals as goal
 
-pub returns-in-Ok-text-clause-gives : goal.returns-in-Ok-text-clause-gives
-returns-in-Ok-text-clause-gives g c =
+pub returns-clause-gives : goal.returns-clause-gives
+returns-clause-gives g c =
     let ready = c.args.ready.now in
-    let plan = plan_of c.in-Ok.found.outcome in
-    c.in-Ok.ensures.passes (λ found. Ends (Ok (explain_text ready.options.filter ready.bound found.0 found.1))) (g.F.Files.faults c.answer_query.new.files) (Ok c.in-Ok-text.text.items)
-    (inr (ap Ok (◌∙◌ {b = explain_text ready.options.filter ready.bound c.as_slice.result.now plan} c.in-Ok-text.ensures (ap (λ (ts : List Rows). explain_text ready.options.filter ready.bound ts plan) c.as_slice.ensures.value))))
+    let plan = plan_of c.in_ok-found.found.outcome in
+    c.in_ok-found.ensures.passes (λ found. Ends (Ok (explain_text ready.options.filter ready.bound found.0 found.1))) (g.F.Files.faults c.answer_query.new.files) (Ok c.in_ok-text.text.items)
+    (inr (ap Ok (◌∙◌ {b = explain_text ready.options.filter ready.bound c.as_slice.result.now plan} c.in_ok-text.ensures (ap (λ (ts : List Rows). explain_text ready.options.filter ready.bound ts plan) c.as_slice.ensures.value))))

@@ -1,5 +1,5 @@
 use Rattle.std.proofs.Common.{◌∙◌, sym, arith}
-use Rattle.join_graph.specs.JoinList.{has}
+use Rattle.rpt_base.specs.Lists.{has}
 use Rattle.rpt_cli.proofs.RangeFacts.{all_below-more, all_below-stop}
 use Rattle.rpt_cli.proofs.orders.have_all.Goals as goal
 

@@ -1,6 +1,6 @@
 use Rattle.std.proofs.Common.{◌≡◌, true}
 use Rattle.std.specs.List.{list_all, range_with_len}
-use Rattle.join_graph.specs.JoinList.{has}
+use Rattle.rpt_base.specs.Lists.{has}
 use Rattle.rpt_cli.proofs.orders.have_all.Given as goal
 
 abbrev pub invariant-loop-relation : goal.invariant-loop-relation

@@ -1,13 +1,12 @@
 use Rattle.std.proofs.Common.{◌∙◌, ap, sym, subst, List, length, ℕ}
-use Rattle.safe_subjoin.specs.SafeOrder.{IsOrder}
-use Rattle.rpt_cli.specs.Orders.{is_order}
-use Rattle.rpt_cli.proofs.OrderFacts.{is_order-IsOrder}
+use Rattle.rpt_base.specs.Orders.{IsOrder, is_order}
+use Rattle.rpt_base.proofs.OrderFacts.{is_order-IsOrder}
 use Rattle.rpt_cli.proofs.orders.order_of.Goals as goal
 
 pub returns-clause-order : goal.returns-clause-order
 returns-clause-order c =
     let sets = c.args.bound.now.known.sets in
-    let order = c.in-Ok.order.items in
+    let order = c.in_ok-order.order.items in
     let items = c.deref.ensures.value in
     let holds = ap (λ (n : ℕ). is_order n c.deref.result.now) (sym (c.relations.ensures.count ∙ sym c.relations.ensures.sets)) ∙ sym c.is_order.ensures ∙ c.if-not-is_order.false in
     subst (λ (o : List ℕ). IsOrder (length sets) o) (items ∙ sym c.from_vec.ensures) (is_order-IsOrder (length sets) c.deref.result.now holds)

@@ -1,6 +1,6 @@
 use Rattle.sample_gen.specs.Script.{sample_script}
 use Rattle.sample_gen.proofs.making.script.Goals as goal
 
-pub returns-in-Ok-clause-script : goal.returns-in-Ok-clause-script
+pub returns-clause-script : goal.returns-clause-script
 unfolding sample_script
-returns-in-Ok-clause-script c = c.in-Ok.ensures.items
+returns-clause-script c = c.in_ok-script.ensures.items

@@ -1,6 +1,6 @@
 use Rattle.std.proofs.Common.{◌∙◌, [], ap, sym}
 use Rattle.std.specs.Prelude.{None}
-use Rattle.script_rules.specs.Faults.{each_behind, first_of, source_faults, table_faults}
+use Rattle.script_rules.specs.Faults.{each_behind, first_by_phase, first_of, query_phases, source_faults, table_faults}
 use Rattle.script_rules.proofs.LimitFacts.{within_limits}
 use Rattle.script_rules.proofs.RefusalFacts.{if_none, refusal-query, refusal-sources, refusal-tables}
 use Rattle.script_rules.proofs.refusal.first_fault.Goals as goal
@@ -20,8 +20,8 @@ returns-in-Some-in_sources-clause-fault c =
     in
     sym (refusal-sources c.args.script.now c.in-Some-in_sources.fault (tables ∙ c.in_default.is) (sources ∙ c.in-Some-in_sources.is))
 
-pub in_query-requires : goal.in_query-requires
-in_query-requires c =
+pub of-requires : goal.of-requires
+of-requires c =
     let tables = ap (λ tables. first_of None (each_behind table_faults [] tables)) (sym c.as_slice.ensures) ∙ sym c.in_tables.ensures in
     let sources =
     ap (λ sources. first_of None (each_behind (source_faults c.args.script.now.tables) [] sources)) (sym c.as_slice-3.ensures)
@@ -38,7 +38,7 @@ returns-clause-fault c =
     ∙ ap (λ tables. first_of None (each_behind (source_faults tables) [] c.as_slice-3.result.now)) (sym c.as_slice-2.ensures)
     ∙ sym c.in_sources.ensures
     in
-    c.in_query.ensures ∙ sym (refusal-query c.args.script.now (tables ∙ c.in_default.is) (sources ∙ c.in_default-in_sources.is))
+    c.in_query.ensures ∙ ap (λ scope. first_by_phase (query_phases scope c.args.script.now)) c.of.ensures ∙ sym (refusal-query c.args.script.now (tables ∙ c.in_default.is) (sources ∙ c.in_default-in_sources.is))
 
 pub returns-clause-limits : goal.returns-clause-limits
 returns-clause-limits c =

@@ -3,7 +3,7 @@ use Rattle.std.proofs.lemmas.Result.{err_from_is_err_and}
 use Rattle.sql_grammar.specs.Kinds.{numbers}
 use Rattle.sql_grammar.specs.Grammar.{comparisons}
 use Rattle.sql_grammar.specs.declared.tree.Expr.{Expr}
-use Rattle.sql_grammar.specs.declared.tree.Op.{Op}
+use Rattle.rpt_base.specs.declared.comparisons.Comparison.{Comparison}
 use Rattle.sql_grammar.specs.Meaning.{tests, test_of, predicate_of, operand_of, op_of, compare}
 use Rattle.sql_grammar.proofs.Predicates.{compared, negated, in_turn, as_written, compare_is, predicate_is}
 use Rattle.sql_grammar.proofs.Leads.{itself, behind, at_same, at_left, at_right, hands_on, fails_first, other_kinds, none_of}
@@ -24,7 +24,7 @@ returns-in-Some c n =
     (behind (at_left l1 (other_kinds negated (numbers comparisons) c.in-Some.ensures.begins refl refl)) refl op.reads)
     (λ right r e. compare_is left.tree op.tree right
     ∙ ap (λ (x : Expr). compare x (op_of op.tree) (operand_of right)) left.value
-    ∙ ap (λ (x : Op). compare c.in_ok-left.left x (operand_of right)) op.value ∙ e) c.compared.result (c.compared.ensures n)
+    ∙ ap (λ (x : Comparison). compare c.in_ok-left.left x (operand_of right)) op.value ∙ e) c.compared.result (c.compared.ensures n)
 
 pub returns-in-None : goal.returns-in-None
 returns-in-None c n =

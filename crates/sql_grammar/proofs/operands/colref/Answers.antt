@@ -2,10 +2,10 @@ use Rattle.std.proofs.Common.{refl, sym, ap, ◌∙◌, [], ◌∷◌}
 use Rattle.std.proofs.lemmas.Result.{err_from_is_err_and}
 use Rattle.sql_grammar.specs.declared.kinds.Kind.TheVariants as k
 use Rattle.sql_grammar.specs.Kinds.{code}
-use Rattle.sql_grammar.specs.Grammar.{Part, Tree, token, word, many, opt, line, name, names, None, Left, Right, Both, ◌▸◌, ◌∣◌}
+use Rattle.sql_grammar.specs.Grammar.{Part, word, name, None, Left, ◌▸◌, ◌∣◌}
 use Rattle.sql_grammar.specs.Grammar as g
 use Rattle.sql_grammar.specs.declared.tree.Alias.{Alias}
-use Rattle.sql_grammar.specs.Meaning.{named, alone, within}
+use Rattle.sql_grammar.specs.Meaning.{placed_name, alone, within}
 use Rattle.sql_grammar.proofs.Choices.{reads_none}
 use Rattle.sql_grammar.proofs.Leads.{at_line, at_some, behind, done, fails, fails_first, reads_kind, begun, none_of, read_ok, read_err}
 use Rattle.sql_grammar.proofs.operands.colref.Goals as goal
@@ -24,16 +24,16 @@ returns-in_err-first-in-Some c n =
     let first = c.in_ok-first.ensures n in
     let dot = c.in-Some.ensures.some in
     let l = behind (at_some (behind (at_line g.colref) refl first.reads) (begun dot)) refl (reads_kind dot) in
-    rw (p.1, p.2) (fails l c.args.end c.in_err-first-in-Some.field-0.0 (read_err named (λ r. r.0) (λ r. r.1.now) _ _ c.args.end c.in_err-first-in-Some.ensures (c.name-in-Some.ensures n)))
+    rw (p.1, p.2) (fails l c.args.end c.in_err-first-in-Some.field-0.0 (read_err placed_name (λ r. r.0) (λ r. r.1.now) _ _ c.args.end c.in_err-first-in-Some.ensures (c.name-in-Some.ensures n)))
 
 pub returns-in_ok-first-in-Some : goal.returns-in_ok-first-in-Some
 returns-in_ok-first-in-Some c n =
     let first = c.in_ok-first.ensures n in
     let dot = c.in-Some.ensures.some in
-    let column = read_ok named (λ r. r.0) (λ r. r.1.now) c.args.end c.in_ok-first-in-Some.ensures.0 (c.name-in-Some.ensures n) in
+    let column = read_ok placed_name (λ r. r.0) (λ r. r.1.now) c.args.end c.in_ok-first-in-Some.ensures.0 (c.name-in-Some.ensures n) in
     let l = behind (at_some (behind (at_line g.colref) refl first.reads) (begun dot)) refl (reads_kind dot) in
     done l column.tree column.reads
-    (ap (λ (x : Alias). within x (named column.tree)) (first.value ∙ sym c.in_ok-first-in-Some.ensures.1) ∙ ap (λ (x : Alias). within c.in_ok-first-in-Some.first x) column.value)
+    (ap (λ (x : Alias). within x (placed_name column.tree)) (first.value ∙ sym c.in_ok-first-in-Some.ensures.1) ∙ ap (λ (x : Alias). within c.in_ok-first-in-Some.first x) column.value)
 
 pub returns-in-None : goal.returns-in-None
 returns-in-None c n =

@@ -1,10 +1,10 @@
 use Rattle.std.proofs.Common.{refl, ap, ◌∙◌}
 use Rattle.std.proofs.lemmas.Result.{err_from_is_err_and}
-use Rattle.sql_grammar.specs.Grammar.{Part, Tree, token, word, many, opt, level, line, name, names, types, comparisons, magnitudes, None, Left, Right, Both, In, By, ◌▸◌, ◌∣◌}
+use Rattle.sql_grammar.specs.Grammar.{◌▸◌, ◌∣◌}
 use Rattle.sql_grammar.specs.Grammar as g
 use Rattle.rpt_base.specs.declared.values.ColumnType.{ColumnType}
 use Rattle.sql_grammar.specs.declared.tree.Alias.{Alias}
-use Rattle.sql_grammar.specs.Meaning.{typed, type_of}
+use Rattle.sql_grammar.specs.Meaning.{typed_column, type_of}
 use Rattle.sql_grammar.proofs.Leads.{at_line, behind, done, fails, fails_first}
 use Rattle.sql_text.proofs.parsing.column.Goals as goal
 
@@ -28,4 +28,4 @@ returns c n =
     let column = c.in_ok-column.ensures n in
     let l1 = behind l0 refl column.reads in
     let kind = c.in_ok-kind.ensures n in
-    done l1 kind.tree kind.reads (ap (λ (x : Alias). typed x (type_of kind.tree)) column.value ∙ ap (λ (x : ColumnType). typed c.in_ok-column.column x) kind.value)
+    done l1 kind.tree kind.reads (ap (λ (x : Alias). typed_column x (type_of kind.tree)) column.value ∙ ap (λ (x : ColumnType). typed_column c.in_ok-column.column x) kind.value)

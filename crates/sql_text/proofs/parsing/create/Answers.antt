@@ -1,11 +1,11 @@
 use Rattle.std.proofs.Common.{◌≡◌, refl, sym, ap, ◌∙◌, List}
 use Rattle.std.proofs.lemmas.Result.{err_from_is_err_and}
 use Rattle.sql_grammar.specs.declared.kinds.Kind.TheVariants as k
-use Rattle.sql_grammar.specs.Grammar.{Part, Tree, token, word, many, opt, level, line, name, names, types, comparisons, magnitudes, None, Left, Right, Both, In, By, ◌▸◌, ◌∣◌}
+use Rattle.sql_grammar.specs.Grammar.{Part, Tree, word, many, line, name, Both, By, ◌▸◌, ◌∣◌}
 use Rattle.sql_grammar.specs.Grammar as g
 use Rattle.sql_grammar.specs.declared.tree.Alias.{Alias}
 use Rattle.sql_grammar.specs.declared.tree.ColumnItem.{ColumnItem}
-use Rattle.sql_grammar.specs.Meaning.{create_of, created, named, column_list_of}
+use Rattle.sql_grammar.specs.Meaning.{create_of, created_table, placed_name, column_list_of}
 use Rattle.sql_grammar.proofs.Same.{regrouped, ungroup}
 use Rattle.sql_grammar.proofs.Leads.{at_line, at_same, behind, done, fails, fails_first, read_ok, read_err}
 use Rattle.sql_text.proofs.parsing.create.Goals as goal
@@ -15,7 +15,7 @@ more_columns = many (word k.Comma ▸ line g.column)
 
 -- the syntax tree by its parts
 create_is : (a : Tree (word k.Create)) (b : Tree (word k.Table)) (n : Tree name) (l : Tree (word k.LeftParen)) (cs : Tree (line g.column ▸ more_columns)) (r : Tree (word k.RightParen)) (s : Tree (word k.Semicolon))
-    → create_of (By (Both a (Both b (Both n (Both l (ungroup (Both cs (Both r s)))))))) ≡ created (named n) (column_list_of cs)
+    → create_of (By (Both a (Both b (Both n (Both l (ungroup (Both cs (Both r s)))))))) ≡ created_table (placed_name n) (column_list_of cs)
 create_is a b n l (Both first more) r s = refl
 
 pub returns-in_err-rest : goal.returns-in_err-rest
@@ -119,6 +119,6 @@ returns c n =
     let l6 = behind l5 refl right.reads in
     let semicolon = c.in_ok-table-3.ensures n in
     done l6 semicolon.tree semicolon.reads (create_is create.tree table_word.tree table.tree left.tree columns.tree right.tree semicolon.tree
-    ∙ ap (λ (x : Alias). created x (column_list_of columns.tree)) (table.value ∙ left.value ∙ sym c.in_ok-found.ensures.1)
-    ∙ ap (λ (xs : List ColumnItem). created c.in_ok-found.found.0 xs) columns.value
-    ∙ ap (λ (x : Alias × List ColumnItem). created x.0 x.1) (right.value ∙ semicolon.value))
+    ∙ ap (λ (x : Alias). created_table x (column_list_of columns.tree)) (table.value ∙ left.value ∙ sym c.in_ok-found.ensures.1)
+    ∙ ap (λ (xs : List ColumnItem). created_table c.in_ok-found.found.0 xs) columns.value
+    ∙ ap (λ (x : Alias × List ColumnItem). created_table x.0 x.1) (right.value ∙ semicolon.value))

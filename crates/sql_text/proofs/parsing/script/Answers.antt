@@ -1,10 +1,10 @@
 use Rattle.std.proofs.Common.{refl, ap, ◌∙◌, List}
 use Rattle.std.proofs.lemmas.Result.{err_from_is_err_and}
-use Rattle.sql_grammar.specs.Grammar.{Part, Tree, token, word, many, opt, level, line, name, names, types, comparisons, magnitudes, None, Left, Right, Both, In, By, ◌▸◌, ◌∣◌}
+use Rattle.sql_grammar.specs.Grammar.{◌▸◌, ◌∣◌}
 use Rattle.sql_grammar.specs.Grammar as g
 use Rattle.sql_grammar.specs.declared.tree.CreateTable.{CreateTable}
 use Rattle.sql_grammar.specs.declared.tree.Select.{Select}
-use Rattle.sql_grammar.specs.Meaning.{scripted, select_of}
+use Rattle.sql_grammar.specs.Meaning.{whole_script, select_of}
 use Rattle.sql_grammar.proofs.Leads.{at_line, behind, done, fails_first}
 use Rattle.sql_text.proofs.parsing.script.Goals as goal
 
@@ -28,4 +28,4 @@ returns c =
     let select = c.in_ok-select.ensures in
     let semicolon = c.passes.ensures c.args.levels in
     done (behind (behind (at_line g.script) refl tables.reads) refl select.reads) semicolon.tree semicolon.reads
-    (ap (λ (xs : List CreateTable). scripted xs (select_of select.tree)) tables.value ∙ ap (λ (x : Select). scripted c.in_ok-tables.tables x) select.value)
+    (ap (λ (xs : List CreateTable). whole_script xs (select_of select.tree)) tables.value ∙ ap (λ (x : Select). whole_script c.in_ok-tables.tables x) select.value)

@@ -1,11 +1,11 @@
 use Rattle.std.proofs.Common.{ℕ, refl, sym, ap, ◌∙◌, List, Option}
 use Rattle.std.proofs.lemmas.Result.{err_from_is_err_and}
-use Rattle.sql_grammar.specs.Grammar.{Part, Tree, token, word, many, opt, level, line, name, names, types, comparisons, magnitudes, None, Left, Right, Both, In, By, ◌▸◌, ◌∣◌}
+use Rattle.sql_grammar.specs.Grammar.{◌▸◌, ◌∣◌}
 use Rattle.sql_grammar.specs.Grammar as g
 use Rattle.sql_grammar.specs.declared.tree.Alias.{Alias}
 use Rattle.sql_grammar.specs.declared.tree.ColumnName.{ColumnName}
 use Rattle.sql_grammar.specs.declared.tree.Item.{Item}
-use Rattle.sql_grammar.specs.Meaning.{titled, alias_of}
+use Rattle.sql_grammar.specs.Meaning.{titled_item, alias_of}
 use Rattle.sql_grammar.proofs.Leads.{at_line, behind, done, fails, fails_first}
 use Rattle.sql_text.proofs.sources.item.Goals as goal
 
@@ -29,8 +29,8 @@ returns c n =
     let column = c.in_ok-column.ensures n in
     let l1 = behind l0 refl column.reads in
     let alias = c.in_ok-alias.ensures n in
-    done l1 alias.tree alias.reads (ap (λ (x : ColumnName). titled x (alias_of alias.tree)) column.value
-    ∙ ap (λ (x : Option Alias). titled c.in_ok-column.column x) alias.value
+    done l1 alias.tree alias.reads (ap (λ (x : ColumnName). titled_item x (alias_of alias.tree)) column.value
+    ∙ ap (λ (x : Option Alias). titled_item c.in_ok-column.column x) alias.value
     ∙ ap (λ (x : Option (List ℕ)). itemed c.in_ok-column.column x) (sym c.title_of.ensures))
   where
     itemed : ColumnName → Option (List ℕ) → Item

@@ -3,7 +3,7 @@ use Rattle.std.proofs.lemmas.Result.{err_from_is_err_and}
 use Rattle.sql_grammar.specs.declared.tree.Alias.{Alias}
 use Rattle.sql_grammar.specs.declared.tree.Cond.{Cond}
 use Rattle.sql_grammar.specs.declared.tree.Source.{Source}
-use Rattle.sql_grammar.specs.Meaning.{join, unjoined, joined_on, cond_of}
+use Rattle.sql_grammar.specs.Meaning.{join, unjoined_source, joined_source, cond_of}
 use Rattle.sql_grammar.proofs.Leads.{itself, behind, done, fails, fails_first, read_ok, read_err}
 use Rattle.sql_text.proofs.sources.join.Goals as goal
 
@@ -50,6 +50,6 @@ returns c =
     let on_word = c.in_ok-table-2.ensures c.args.levels in
     let on = read_ok cond_of (λ r. r.0) (λ r. r.1.now) c.args.end c.in_ok-table-3.ensures.0 c.cond.ensures in
     done (behind (behind l1 refl table.reads) refl on_word.reads) on.tree on.reads
-    (ap (λ (x : Source). joined_on x (cond_of on.tree)) table.value
-    ∙ ap (λ (x : Alias × Option Alias). joined_on (unjoined x.0 x.1) (cond_of on.tree)) (on_word.value ∙ sym c.in_ok-table-3.ensures.1)
-    ∙ ap (λ (x : Cond). joined_on (unjoined c.in_ok-table-3.table c.in_ok-table-3.alias) x) on.value ∙ sym c.joined.ensures)
+    (ap (λ (x : Source). joined_source x (cond_of on.tree)) table.value
+    ∙ ap (λ (x : Alias × Option Alias). joined_source (unjoined_source x.0 x.1) (cond_of on.tree)) (on_word.value ∙ sym c.in_ok-table-3.ensures.1)
+    ∙ ap (λ (x : Cond). joined_source (unjoined_source c.in_ok-table-3.table c.in_ok-table-3.alias) x) on.value ∙ sym c.joined.ensures)

@@ -1,12 +1,12 @@
 use Rattle.std.proofs.Common.{◌≡◌, refl, sym, ap, ◌∙◌, List, Option}
 use Rattle.std.proofs.lemmas.Result.{err_from_is_err_and}
 use Rattle.sql_grammar.specs.declared.kinds.Kind.TheVariants as k
-use Rattle.sql_grammar.specs.Grammar.{Part, Tree, token, word, many, opt, level, line, name, names, types, comparisons, magnitudes, None, Left, Right, Both, In, By, ◌▸◌, ◌∣◌}
+use Rattle.sql_grammar.specs.Grammar.{Part, Tree, word, many, opt, line, Both, By, ◌▸◌, ◌∣◌}
 use Rattle.sql_grammar.specs.Grammar as g
 use Rattle.sql_grammar.specs.declared.tree.Cond.{Cond}
 use Rattle.sql_grammar.specs.declared.tree.Items.{Items}
 use Rattle.sql_grammar.specs.declared.tree.Source.{Source}
-use Rattle.sql_grammar.specs.Meaning.{select_of, selected, items_of, source_list_of, filter_of}
+use Rattle.sql_grammar.specs.Meaning.{select_of, whole_select, items_of, source_list_of, filter_of}
 use Rattle.sql_grammar.proofs.Same.{regrouped, ungroup}
 use Rattle.sql_grammar.proofs.Leads.{at_line, at_same, behind, done, fails, fails_first, read_ok, read_err}
 use Rattle.sql_text.proofs.sources.select.Goals as goal
@@ -19,7 +19,7 @@ filter_part = opt (word k.Where ▸ line g.cond)
 
 -- the syntax tree by its parts
 select_is : (a : Tree (word k.Select)) (b : Tree (line g.items)) (f : Tree (word k.From)) (s : Tree (line g.source ▸ more_sources)) (w : Tree filter_part)
-    → select_of (By (Both a (Both b (Both f (ungroup (Both s w)))))) ≡ selected (items_of b) (source_list_of s) (filter_of w)
+    → select_of (By (Both a (Both b (Both f (ungroup (Both s w)))))) ≡ whole_select (items_of b) (source_list_of s) (filter_of w)
 select_is a b f (Both first more) w = refl
 
 pub returns-in_err-rest : goal.returns-in_err-rest
@@ -75,7 +75,7 @@ returns c =
     let l2 = behind (behind (at_line g.select) refl keyword.reads) refl items.reads in
     let l3 = at_same (behind l2 refl from_word.reads) (regrouped {a = line g.source} {b = more_sources} {c = filter_part}) refl in
     done (behind l3 refl sources.reads) filter.tree filter.reads (select_is keyword.tree items.tree from_word.tree sources.tree filter.tree
-    ∙ ap (λ (x : Items). selected x (source_list_of sources.tree) (filter_of filter.tree)) (items.value ∙ from_word.value ∙ sym c.in_ok-found.ensures.1)
-    ∙ ap (λ (x : List Source). selected c.in_ok-found.found.0 x (filter_of filter.tree)) sources.value
-    ∙ ap (λ (x : Items × List Source). selected x.0 x.1 (filter_of filter.tree)) (sym c.in_ok-items-3.ensures.1)
-    ∙ ap (λ (x : Option Cond). selected c.in_ok-items-3.items c.in_ok-items-3.sources x) filter.value)
+    ∙ ap (λ (x : Items). whole_select x (source_list_of sources.tree) (filter_of filter.tree)) (items.value ∙ from_word.value ∙ sym c.in_ok-found.ensures.1)
+    ∙ ap (λ (x : List Source). whole_select c.in_ok-found.found.0 x (filter_of filter.tree)) sources.value
+    ∙ ap (λ (x : Items × List Source). whole_select x.0 x.1 (filter_of filter.tree)) (sym c.in_ok-items-3.ensures.1)
+    ∙ ap (λ (x : Option Cond). whole_select c.in_ok-items-3.items c.in_ok-items-3.sources x) filter.value)

@@ -1,5 +1,5 @@
 use Rattle.std.proofs.Common.{◌≡◌, ℕ, ◌<◌, true}
-use Rattle.join_graph.specs.JoinList.{has}
+use Rattle.rpt_base.specs.Lists.{has}
 use Rattle.transfer_calls.proofs.parts.has_all.Given as goal
 
 abbrev pub invariant-loop-relation : goal.invariant-loop-relation

@@ -14,7 +14,7 @@ use Rattle.transfer_core.proofs.passing.filled.Goals.{then-passes, else-passes}
 pub loop-item-init : goal.loop-item-init
 loop-item-init g c = (
   ap (λ (l : List ℕ). get_or l c.args.port.region 0) c.as_slice.ensures,
-  c.in-Ok.ensures.items_if_clones_equal (λ x h. h) ∙ fills_start (shape_of g.P.Placement.seen c.args.plan.now) (regions_of c.args.words.now) c.args.pipe.now.reads c.args.port (get_or c.as_slice.result.now c.args.port.region 0),
+  c.in_ok-filled.ensures.items_if_clones_equal (λ x h. h) ∙ fills_start (shape_of g.P.Placement.seen c.args.plan.now) (regions_of c.args.words.now) c.args.pipe.now.reads c.args.port (get_or c.as_slice.result.now c.args.port.region 0),
 )
 
 pub passes-requires-clause-places : goal.passes-requires-clause-places

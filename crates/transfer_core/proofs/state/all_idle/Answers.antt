@@ -1,6 +1,5 @@
-use Rattle.std.proofs.Common.{◌≡◌, ◌∙◌, ◌++◌, [], ◌∷◌, ap, arith, subst, sym, List, length, map, if◌then◌else◌, false, Bool}
+use Rattle.std.proofs.Common.{◌≡◌, ◌∙◌, ◌++◌, [], ◌∷◌, ap, arith, subst, sym, List, length, map, false}
 use Rattle.std.proofs.lemmas.List.{length-replicate, map-append, replicate_more}
-use mathlib.Core.Bool.{not}
 use Rattle.transfer_core.specs.declared.plan.Pipe.{Pipe}
 use Rattle.transfer_core.specs.Actors.{Actor, idle}
 use Rattle.transfer_core.specs.Plans.{shape_of}
@@ -13,7 +12,7 @@ pub loop-preserved : goal.loop-preserved
 loop-preserved g c =
     let s = shape_of g.P.Placement.seen c.args.plan.now in let all = c.loop.all.items in let k = c.in_ok-known.known in
     let new = idle (length c.args.plan.now.pipes) in
-    let pushed : c.push.new.self.items ≡ all ++ k ∷ [] = c.push.ensures.items ∙ ap (λ (b : Bool). if b then all ++ k ∷ [] else all) (c.is_err.ensures.negation ∙ ap not c.if-is_err.false) in
+    let pushed : c.push.new.self.items ≡ all ++ k ∷ [] = c.in_ok-push.ensures.items in
     let is : actor_of k ≡ new = c.in_ok-known.ensures.actor ∙ ap (λ (l : List Pipe). idle (length l)) c.as_slice-pipes.ensures in
     let room : HasRoom s k = record {
       puts = λ p l. omega (arith, c.in_ok-puts.ensures p l, c.in_ok-known.ensures.puts);

@@ -3,8 +3,8 @@ use Rattle.column_table.proofs.table.Table.push_row.Goals as goal
 
 pub put-requires : goal.put-requires
 put-requires c =
-    next-typed c.loop-value.self-inside.columns c.args.self.now.kinds c.args.self.now.rows c.args.row.now c.loop-value.value-index c.value-item.result c.loop-value.invariant c.requires.types c.loop-value-test.true c.value-item.is
+    next-typed c.loop-value.self-inside.builder c.args.self.now.kinds c.args.self.now.rows c.args.row.now c.loop-value.value-index c.value-item.result c.loop-value.invariant c.requires.types c.loop-value-test.true c.value-item.is
 
 pub end_row-requires-clause-full : goal.end_row-requires-clause-full
 end_row-requires-clause-full c =
-    row-full c.loop-value.self-inside.columns c.args.self.now.kinds c.args.self.now.rows c.args.row.now c.loop-value.value-index c.loop-value.invariant c.requires.types c.loop-value-test.false
+    row-full c.loop-value.self-inside.builder c.args.self.now.kinds c.args.self.now.rows c.args.row.now c.loop-value.value-index c.loop-value.invariant c.requires.types c.loop-value-test.false

@@ -1,5 +1,6 @@
 use Rattle.std.proofs.Common.{◌≡◌, ◌∙◌, length, arith, rules, true, false}
 use Rattle.std.specs.Result.{is_ok}
+use Rattle.column_table.proofs.ListFacts.{on-err}
 use Rattle.column_table.proofs.TextFacts.{as-many, tight-cut, shows-more, shows-push}
 use Rattle.column_table.proofs.texts.TextColumn.put.Goals as goal
 
@@ -13,15 +14,15 @@ invariant_of-self c =
     let same = rw bad at c.extend_from_slice.ensures.items in
     (tight-cut c.self.inside.bytes.items c.self.inside.ends.items c.args.self.now c.args.at c.start_of-start.result _ _ c.self.invariant c.self.view_is c.requires c.start_of-start.ensures (same ∙ c.truncate-2.ensures.items) c.truncate.ensures.items).are
 
-pub returns-then-is_err-clause-err : goal.returns-then-is_err-clause-err
-returns-then-is_err-clause-err c =
+pub returns-in_err-extend_from_slice-clause-err : goal.returns-in_err-extend_from_slice-clause-err
+returns-in_err-extend_from_slice-clause-err c =
     let bad : is_ok c.extend_from_slice.result ≡ false = search rules in
     let same = rw bad at c.extend_from_slice.ensures.items in
-    (tight-cut c.self.inside.bytes.items c.self.inside.ends.items c.args.self.now c.args.at c.start_of-start.result _ _ c.self.invariant c.self.view_is c.requires c.start_of-start.ensures (same ∙ c.truncate-2.ensures.items) c.truncate.ensures.items).texts_are
+    on-err c.from_residual.result ((tight-cut c.self.inside.bytes.items c.self.inside.ends.items c.args.self.now c.args.at c.start_of-start.result _ _ c.self.invariant c.self.view_is c.requires c.start_of-start.ensures (same ∙ c.truncate-2.ensures.items) c.truncate.ensures.items).texts_are)
 
 -- the end was refused
-pub invariant_of-self-then-is_err-2 : goal.invariant_of-self-then-is_err-2
-invariant_of-self-then-is_err-2 c =
+pub invariant_of-self-in_err-push : goal.invariant_of-self-in_err-push
+invariant_of-self-in_err-push c =
     let good : is_ok c.extend_from_slice.result ≡ true = search rules in
     let bad : is_ok c.push.result ≡ false = search rules in
     let longer = rw good at c.extend_from_slice.ensures.items in
@@ -29,14 +30,14 @@ invariant_of-self-then-is_err-2 c =
     let cut = tight-cut c.self.inside.bytes.items c.self.inside.ends.items c.args.self.now c.args.at c.start_of-start.result _ _ c.self.invariant c.self.view_is c.requires c.start_of-start.ensures c.truncate-2.ensures.items c.truncate.ensures.items in
     rw (longer, ends) (shows-more _ c.as_bytes.result.now _ _ cut).are
 
-pub returns-then-is_err-2-clause-err : goal.returns-then-is_err-2-clause-err
-returns-then-is_err-2-clause-err c =
+pub returns-in_err-push-clause-err : goal.returns-in_err-push-clause-err
+returns-in_err-push-clause-err c =
     let good : is_ok c.extend_from_slice.result ≡ true = search rules in
     let bad : is_ok c.push.result ≡ false = search rules in
     let longer = rw good at c.extend_from_slice.ensures.items in
     let ends = rw bad at c.push.ensures.items in
     let cut = tight-cut c.self.inside.bytes.items c.self.inside.ends.items c.args.self.now c.args.at c.start_of-start.result _ _ c.self.invariant c.self.view_is c.requires c.start_of-start.ensures c.truncate-2.ensures.items c.truncate.ensures.items in
-    rw (longer, ends) (shows-more _ c.as_bytes.result.now _ _ cut).texts_are
+    on-err c.from_residual-in_err-push.result (rw (longer, ends) (shows-more _ c.as_bytes.result.now _ _ cut).texts_are)
 
 -- the text is put
 pub invariant_of-self-2 : goal.invariant_of-self-2

@@ -9,6 +9,6 @@ unreachable-requires c = c.in_default.ensures.cases.0 (is_name-utf8 c.args.bytes
 
 pub invariant_of-result : goal.invariant_of-result
 invariant_of-result c =
-    let text = c.in-Ok-to_ascii_lowercase.text in
-    let lower = c.in-Ok-to_ascii_lowercase.ensures.ok ∙ ap (λ t. map to_ascii_lowercase t) c.in-Ok.ensures.cases.0 in
+    let text = c.in_ok-text.text in
+    let lower = c.in_ok-text.ensures.ok ∙ ap (λ t. map to_ascii_lowercase t) c.in-Ok.ensures.cases.0 in
     is_name-of_lower c.args.bytes.now _ lower c.requires (IsUtf8-had _ text.ok)

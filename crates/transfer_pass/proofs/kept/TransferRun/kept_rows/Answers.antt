@@ -5,7 +5,7 @@ use Rattle.std.proofs.lemmas.List.Elements.{filter_more}
 use Rattle.std.proofs.lemmas.List.FromFn.{get_or-range_with_len, length-range_with_len}
 use Rattle.transfer_plan.specs.Kept.{Run, Written, has_bit, kept_among}
 use Rattle.transfer_pass.proofs.kept.TransferRun.kept_rows.Goals as goal
-use Rattle.transfer_pass.proofs.kept.TransferRun.kept_rows.Goals.{then-has_item+in_ok-add, else-has_item}
+use Rattle.transfer_pass.proofs.kept.TransferRun.kept_rows.Goals.{then-has_item+in_ok-push, else-has_item}
 
 -- the rows of the items below n that pass a test
 abbrev rows_below : List ℕ → (ℕ → Bool) → ℕ → ℕ → List ℕ
@@ -32,7 +32,7 @@ loop-item-preserved c =
     let p = has_bit c.args.self.now.words c.kept.inside.region in
     let is : p item ≡ c.has_item.result = ap (λ (run : Run). has_bit run.words c.kept.inside.region item) (sym c.self.view_is) ∙ sym c.has_item.ensures in
     elim c.if-has_item.branch [
-      | then-has_item+in_ok-add w ↦ ap (λ l. l.items) w.list-is ∙ w.in_ok-add.ensures ∙ ap (λ (l : List ℕ). l ++ get_or rows item 0 ∷ []) c.loop-item.invariant
+      | then-has_item+in_ok-push w ↦ ap (λ l. l.items) w.list-is ∙ w.in_ok-push.ensures.items ∙ ap (λ (l : List ℕ). l ++ get_or rows item 0 ∷ []) c.loop-item.invariant
           ∙ sym (rows-more rows p n item true c.loop-item-test.true (is ∙ w.if-has_item.true))
       | else-has_item w ↦ ap (λ l. l.items) w.list-is ∙ c.loop-item.invariant ∙ sym (rows-more rows p n item false c.loop-item-test.true (is ∙ w.if-has_item.false) ∙ append-nil (rows_below rows p n item))
     ]
