@@ -52,7 +52,9 @@ pub fn put_answer<R: Threads + Sync>(
         Err(PrepareError::Memory) => return Err(CaseError::Memory),
         Err(_) => return Err(CaseError::Range),
     };
-    match answer(rt, alloc, bound, &prepared, tables, &options, &OpenGate) {
+    let answered = answer(rt, alloc, bound, &prepared, tables, &options, &OpenGate);
+    drop(prepared);
+    match answered {
         Ok(outcome) => {
             put_plan(
                 &outcome.tree,

@@ -10,7 +10,9 @@ mod queries;
 mod tables;
 mod tuples;
 
+use bound_query::Bound;
 use case_text::{Case, CaseError};
+use rpt_base::FilterKind;
 use std::alloc::Global;
 use std::thread::Threads;
 
@@ -26,6 +28,19 @@ pub fn put_given<R: Threads + Sync>(
     }
     let filter = answers::filter_of(case.head.as_str())?;
     let bound = queries::query_of(alloc, &case.text)?;
-    let tables = tables::tables_of(alloc, &bound, &case.entries)?;
-    answers::put_answer(rt, alloc, &bound, &tables, filter, given)
+    let put = put_over(rt, alloc, &bound, case, filter, given);
+    drop(bound);
+    put
+}
+
+fn put_over<R: Threads + Sync>(
+    rt: &R,
+    alloc: Global,
+    bound: &Bound,
+    case: &Case,
+    filter: FilterKind,
+    given: &mut String,
+) -> Result<(), CaseError> {
+    let tables = tables::tables_of(alloc, bound, &case.entries)?;
+    answers::put_answer(rt, alloc, bound, &tables, filter, given)
 }

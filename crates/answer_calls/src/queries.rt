@@ -25,11 +25,19 @@ pub fn query_of(alloc: Global, script: &[u8]) -> Result<Bound, CaseError> {
     }
 }
 
-// The script goes with the call, since one that is held where a function branches makes its proof much larger.
+// The script ends in a call of `drop`: where it ends at a branch, its proof is much larger.
 fn bound_of(alloc: Global, script: Script) -> Result<Bound, CaseError>
     requires { 1 ≤ length script.select.sources }
 {
-    match bind(alloc, &script) {
+    let bound = bound_by(alloc, &script);
+    drop(script);
+    bound
+}
+
+fn bound_by(alloc: Global, script: &Script) -> Result<Bound, CaseError>
+    requires { 1 ≤ length script.now.select.sources }
+{
+    match bind(alloc, script) {
         Ok(bound) => Ok(bound),
         Err(BindError::Refused { kind: _, at: _ }) => Err(CaseError::Range),
         Err(BindError::Memory) => Err(CaseError::Memory),

@@ -94,10 +94,11 @@ rows_under limit columns header records = behind (places_of columns header)
     behind (Ok places) = rows_of limit columns header records
     behind (Err e) = Err e
 
--- the rows of a file with at most so many rows, or its refusal; a file without records has no field in its header
+-- the rows of records with at most so many rows, the header first, or their refusal; without records the header has no field
+abbrev pub table_in : ℕ → List ColumnDecl → List Fields → Result RowValues LoadError
+table_in limit columns [] = rows_under limit columns [] []
+table_in limit columns (header ∷ records) = rows_under limit columns header records
+
+-- the rows of a file with at most so many rows, or its refusal
 abbrev pub file_table : ℕ → List ColumnDecl → List ℕ → Result RowValues LoadError
-file_table limit columns bytes = under (file_records bytes)
-  where
-    under : List Fields → Result RowValues LoadError
-    under [] = rows_under limit columns [] []
-    under (header ∷ records) = rows_under limit columns header records
+file_table limit columns bytes = table_in limit columns (file_records bytes)

@@ -1,7 +1,7 @@
 // A table from the bytes of its file.
 ghost use Rattle.std.specs.Prelude.{◌≡◌, ◌≤◌, [], IfOk, OnOk, length};
 ghost use Rattle.rpt_base.specs.declared.limits.TheConstants.{MAX_COLUMNS, MAX_ROWS};
-ghost use Rattle.csv_load.specs.FileTable.{file_table};
+ghost use Rattle.csv_load.specs.FileTable.{file_table, table_in};
 ghost use Rattle.csv_load.specs.Layouts.{rows_in};
 ghost use Rattle.column_table.specs.Table.{types_of};
 ghost use Rattle.csv_load.specs.Loads.{Refuses};
@@ -44,6 +44,24 @@ pub(crate) fn table_within(
     ensures refused { Refuses (file_table limit columns.now bytes.now) result }
 {
     let mut reader = RecordReader::new(alloc, bytes);
+    let table = table_of(alloc, limit, columns, &mut reader);
+    drop(reader);
+    table
+}
+
+// The table of the records that a reader gives, the header first.
+fn table_of(
+    alloc: Global,
+    limit: u32,
+    columns: &[ColumnDecl],
+    reader: &mut RecordReader,
+) -> Result<Table, LoadError>
+    requires columns { length columns.now ≤ MAX_COLUMNS }
+    requires limit { limit ≤ MAX_ROWS }
+    ensures rows { IfOk result (λ table. table_in limit columns.now reader.old ≡ Ok table.rows) }
+    ensures kinds { IfOk result (λ table. table.kinds ≡ types_of columns.now) }
+    ensures refused { Refuses (table_in limit columns.now reader.old) result }
+{
     let mut header = ByteRecord::new(alloc);
     // A file without records is read as one with an empty header.
     match reader.next_into(&mut header) {
@@ -53,7 +71,7 @@ pub(crate) fn table_within(
     }
     let layout = RowLayout::find(alloc, columns, header)?;
     let mut builder = empty(alloc, columns)?;
-    fill_rows(alloc, limit, &layout, &mut reader, &mut builder)?;
+    fill_rows(alloc, limit, &layout, reader, &mut builder)?;
     Ok(builder.finish())
 }
 
@@ -88,17 +106,36 @@ fn fill_rows(
     ensures refused { Refuses (rows_in limit layout.now reader.old) result }
 {
     let mut record = ByteRecord::new(alloc);
+    let filled = fill_by(limit, layout, reader, &mut record, builder);
+    drop(record);
+    filled
+}
+
+// The same, with a record that each one is read into.
+fn fill_by(
+    limit: u32,
+    layout: &RowLayout,
+    reader: &mut RecordReader,
+    fields: &mut ByteRecord,
+    builder: &mut TableBuilder,
+) -> Result<(), LoadError>
+    requires limit { limit ≤ MAX_ROWS }
+    requires empty { builder.old ≡ record { kinds = types_of layout.now.columns; rows = []; started = [] } }
+    ensures rows { OnOk result (rows_in limit layout.now reader.old ≡ Ok builder.new.rows) }
+    ensures kinds { OnOk result (builder.new.kinds ≡ types_of layout.now.columns) }
+    ensures refused { Refuses (rows_in limit layout.now reader.old) result }
+{
     'records: for row in 0..limit {
-        match reader.next_into(&mut record) {
+        match reader.next_into(fields) {
             Ok(true) => {}
             Ok(false) => return Ok(()),
             Err(_) => return Err(LoadError::Memory),
         }
-        layout.fill(row, &record, builder)?;
+        layout.fill(row, fields, builder)?;
         builder.end_row();
     }
     // A record past the limit is one too many whatever it holds.
-    match reader.next_into(&mut record) {
+    match reader.next_into(fields) {
         Ok(true) => Err(LoadError::TooManyRows),
         Ok(false) => Ok(()),
         Err(_) => Err(LoadError::Memory),

@@ -9,7 +9,7 @@ use crate::numbering::Numbering;
 use rpt_base::{Cell, Memory};
 
 /// A value of a key. A text is a table's own.
-#[derive(Clone, Copy, Debug, PartialEq, Eq, Hash)]
+#[derive(Clone, Copy, PartialEq, Eq, Hash)]
 pub(crate) enum KeyCell<'a> {
     Int(i64),
     Text(&'a [u8]),

@@ -38,13 +38,9 @@ pub fn hashes(alloc: Global, keys: &KeyRows<'_>) -> Result<Vec<u64>, Memory>
     requires range { IsInRange keys.now }
     ensures { IfOk result (λ hashes. hashes.items ≡ map hash_of (keys_of keys.now)) }
 {
-    let Ok(mut hashes) = Vec::with_capacity(alloc, keys.rows.len()) else {
-        return Err(Memory);
-    };
+    let mut hashes = Vec::with_capacity(alloc, keys.rows.len())?;
     for item in 0..keys.rows.len() {
-        if hashes.push(item_hash(keys, item)).is_err() {
-            return Err(Memory);
-        }
+        hashes.push(item_hash(keys, item))?;
     }
     Ok(hashes)
 }

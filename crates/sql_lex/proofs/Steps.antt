@@ -7,7 +7,7 @@ use Rattle.std.proofs.lemmas.Str.{is_utf8-from_IsUtf8, IsUtf8-from_is_utf8}
 use Rattle.std.specs.Char.{is_ascii_digit, digit_value}
 use Rattle.std.specs.Str.Parse.{digits_value_after}
 use Rattle.std.proofs.lemmas.Bool.{and_right, eq-eqb, ne_eqb, false_from_ne_true, le-leb, lt-leb}
-use Rattle.std.proofs.lemmas.List.{drop_more, append_assoc, append-nil}
+use Rattle.std.proofs.lemmas.List.{drop_all, drop_more, append_assoc, append-nil}
 use Rattle.std.proofs.lemmas.Option.{none-some}
 use Rattle.sql_lex.specs.declared.tokens.Token.{Token}
 use Rattle.sql_lex.specs.declared.tokens.TokenKind.{TokenKind}
@@ -127,6 +127,31 @@ pub at_doubled : (front bytes : List ℕ) (i : ℕ) → i < length bytes → get
 at_doubled front bytes i within is =
     let e : (get_or bytes i 0 == 39) ≡ true = eq-eqb (get_or bytes i 0) 39 is in
     rw (drop_more bytes i 0 within, text_of-doubled (get_or bytes i 0) (drop (i + 1) bytes) e) (grown-grown front (39 ∷ []) i 1 (text_of false (drop (i + 1) bytes)))
+
+-- another byte behind a second quote ends a text
+pub text-closed : (front bytes : List ℕ) (i : ℕ) → i < length bytes → get_or bytes i 0 ≢ 39
+    → text_of false bytes ≡ grown_text front i (text_of true (drop i bytes)) → Some (front, i) ≡ text_of false bytes
+text-closed front bytes i within ne is =
+    let e : (get_or bytes i 0 == 39) ≡ false = ne_eqb (get_or bytes i 0) 39 ne in
+    let all : i + 0 ≡ i = omega arith in
+    let grown : grown_text front i (text_of true (drop i bytes)) ≡ Some (front, i) =
+    rw (drop_more bytes i 0 within, text_of-closed (get_or bytes i 0) (drop (i + 1) bytes) e, append-nil front, all) refl in
+    sym (is ∙ grown)
+
+-- and so does the end of the bytes, where a quote was read last; else no text ends
+pub text-ended : (front bytes : List ℕ) (i : ℕ) → length bytes ≤ i → i ≤ length bytes
+    → text_of false bytes ≡ grown_text front i (text_of true (drop i bytes)) → Some (front, length bytes) ≡ text_of false bytes
+text-ended front bytes i past within is =
+    let all : i + 0 ≡ length bytes = omega arith in
+    let grown : grown_text front i (text_of true (drop i bytes)) ≡ Some (front, length bytes) =
+    rw (drop_all i bytes past, append-nil front, all) refl in
+    sym (is ∙ grown)
+
+pub text-open : (front bytes : List ℕ) (i : ℕ) → length bytes ≤ i
+    → text_of false bytes ≡ grown_text front i (text_of false (drop i bytes)) → None ≡ text_of false bytes
+text-open front bytes i past is =
+    let grown : grown_text front i (text_of false (drop i bytes)) ≡ None = rw (drop_all i bytes past) refl in
+    sym (is ∙ grown)
 
 -- the ends of a text
 pub ruleset text_steps = (grown-none, text_of-closed, drop_more, append-nil)

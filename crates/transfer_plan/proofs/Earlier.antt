@@ -1,5 +1,5 @@
 -- What a pipe of a tree's plan reads is written by pipes before it.
-use Rattle.std.proofs.Common.{◌≡◌, ◌⊎◌, inl, inr, ⊎_elim, ℕ, zero, suc, ◌+◌, ◌-◌, ◌<◌, List, [], ◌∷◌, ◌++◌, length, map, get_or, take, Bool, true, false, ◌||◌, ◌&&◌, not, refl, sym, ap, ◌∙◌, subst, arith, eqb, eq-eqb, if◌then◌else◌, true≢false, append_assoc, length-append}
+use Rattle.std.proofs.Common.{◌≡◌, ◌⊎◌, inl, inr, ⊎_elim, ℕ, zero, suc, ◌+◌, ◌-◌, ◌<◌, List, [], ◌∷◌, ◌++◌, length, map, get_or, take, Bool, true, false, ◌||◌, not, refl, sym, ap, ◌∙◌, subst, arith, eqb, eq-eqb, if◌then◌else◌, true≢false, append_assoc, length-append}
 use Rattle.std.specs.Prelude.{reverse}
 use Rattle.std.specs.List.{list_all, list_any}
 use Rattle.std.proofs.lemmas.Bool.{and_parts, eqb-true, and_from, or_right, or_left}

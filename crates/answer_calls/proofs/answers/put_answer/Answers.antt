@@ -37,18 +37,18 @@ counted b tables = length-map-range_with_len (λ r. length (selected_rows b tabl
 
 pub put_kept-requires-clause-told : goal.put_kept-requires-clause-told
 put_kept-requires-clause-told g c r within =
-    let seen = ap (λ (ns : List ℕ). length ns) (c.as_slice-in-Ok-answer-2.ensures ∙ c.in-Ok-answer.ensures.selected) in
-    (c.in-Ok-answer.ensures.counts r (omega (arith, within, seen, counted c.args.bound.now c.args.tables.now))).0
+    let seen = ap (λ (ns : List ℕ). length ns) (c.as_slice-in-Ok-answered-2.ensures ∙ c.in-Ok-answered.ensures.selected) in
+    (c.in-Ok-answered.ensures.counts r (omega (arith, within, seen, counted c.args.bound.now c.args.tables.now))).0
 
 pub put_kept-requires-clause-items : goal.put_kept-requires-clause-items
 put_kept-requires-clause-items g c r within =
     let b = c.args.bound.now in
     let tables = c.args.tables.now in
-    let tree = c.in-Ok-answer.outcome.tree in
-    let seen = c.as_slice-in-Ok-answer-2.ensures ∙ c.in-Ok-answer.ensures.selected in
+    let tree = c.in-Ok-answered.outcome.tree in
+    let seen = c.as_slice-in-Ok-answered-2.ensures ∙ c.in-Ok-answered.ensures.selected in
     let sets : length b.known.sets ≡ length (selected_counts b tables) = c.relations-relations.ensures.sets ∙ sym (counted b tables) in
-    let parents = subst (λ (n : ℕ). HasParents n tree.root tree.links) sets c.in-Ok-answer.ensures.plan.tree.joins.parents in
+    let parents = subst (λ (n : ℕ). HasParents n tree.root tree.links) sets c.in-Ok-answered.ensures.plan.tree.joins.parents in
     let less : r < length (selected_counts b tables) = subst (λ (ns : List ℕ). r < length ns) seen within in
-    let items = items-are b tables c.args.filter tree 1024 c.in-Ok-answer.outcome.transfer parents c.in-Ok-answer.ensures.transfer r less in
+    let items = items-are b tables c.args.filter tree 1024 c.in-Ok-answered.outcome.transfer parents c.in-Ok-answered.ensures.transfer r less in
     let here = ap (λ (ns : List ℕ). slice_index ns r) seen in
     omega (arith, here, items)

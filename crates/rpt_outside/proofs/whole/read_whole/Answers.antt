@@ -1,4 +1,4 @@
-use Rattle.std.proofs.Common.{◌≡◌, arith, ◌<◌, ◌++◌, length, take, true}
+use Rattle.std.proofs.Common.{◌≡◌, ◌∙◌, arith, ◌<◌, ◌++◌, length, take, true}
 use Rattle.std.proofs.lemmas.Grind.{common_steps}
 use Rattle.std.specs.Io.KnownBytes.{Consumes}
 use Rattle.rpt_outside.proofs.Reading.{too_large, further}
@@ -21,3 +21,19 @@ returns-then-is_err-2-clause-leaves g c =
     let so_far : Consumes (files.contents c.args.files.now c.args.name.now) (files.left c.read.new.self) (bytes ++ piece) =
     further _ _ _ bytes piece c.loop-bytes.invariant.so_far c.in-Ok-read.ensures.bytes.0 in
     (started, (bytes ++ piece, so_far))
+
+pub loop-bytes-preserved : goal.loop-bytes-preserved
+loop-bytes-preserved g c =
+    let files = g.F.Files in
+    let before = c.loop-bytes.invariant in
+    let so_far : Consumes (files.contents c.args.files.now c.args.name.now) (files.left c.read.new.self) c.extend_from_slice.new.self.items = grind (arith, common_steps, further) in
+    record {
+      room = grind (arith, common_steps);
+      few = grind (arith, common_steps);
+      so_far = so_far;
+      started = grind (arith, common_steps);
+      there = before.there;
+      missing = c.read.ensures.missing ∙ before.missing;
+      contents = c.read.ensures.contents ∙ before.contents;
+      later = λ name. omega (arith, before.later name, c.read.ensures.later name);
+    }

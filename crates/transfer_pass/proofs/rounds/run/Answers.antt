@@ -3,7 +3,7 @@ use mathlib.Core.Logic.{dite}
 use native.Mathlib.Decide.{dec_le}
 use Rattle.transfer_core.specs.Actors.{is_marked}
 use Rattle.filter_board.specs.Views.{HandView}
-use Rattle.transfer_pass.specs.Rounds.{HasSeenFirst, IsToldFirst, all_parts}
+use Rattle.transfer_pass.specs.Rounds.{HasSeenFirst, IsFree, IsToldFirst, all_parts}
 use Rattle.transfer_pass.proofs.HandFacts.{taken}
 use Rattle.transfer_pass.proofs.rounds.run.Goals as goal
 
@@ -29,3 +29,33 @@ rounds-preserved g c =
       empty = c.join_all-all-in-rounds.ensures.empty;
       room = omega (arith, c.join_all-all-in-rounds.ensures.room, c.split_into.ensures.room, inv.room);
     }
+
+pub rounds-init : goal.rounds-init
+rounds-init g c = record {
+  free = c.join_all-all.ensures.free;
+  parts = c.join_all-all.ensures.parts ∙ c.requires.parts;
+  told = λ p before. absurd (omega arith);
+  rounds = omega arith;
+  empty = c.join_all-all.ensures.empty;
+  room = omega (arith, c.join_all-all.ensures.room, c.len-count.ensures, c.args.hands.ok);
+}
+
+pub work_all-requires : goal.work_all-requires
+work_all-requires g c =
+    let free : All (IsFree c.args.board.of) c.as_mut_slice.result.now =
+    subst (All (IsFree c.args.board.of)) (sym c.as_mut_slice.ensures.value) c.split_into.ensures.free in
+    let few : length c.as_mut_slice.result.now < 4294967295 =
+    omega (arith, ap length c.as_mut_slice.ensures.value, c.split_into.ensures.count, c.len-count.ensures, c.args.hands.ok, c.requires.few) in
+    (c.type_bounds.send-P, (c.type_bounds.sync-P, (c.type_bounds.sync-R, (c.type_bounds.sync-G, (free, few)))))
+
+pub join_all-all-requires-in-rounds-clause-free : goal.join_all-all-requires-in-rounds-clause-free
+join_all-all-requires-in-rounds-clause-free g c =
+    let long : length c.work_all.new.hands ≡ c.split_into.new.hands.len = omega (arith, c.work_all.auto.hands, ap length c.as_mut_slice.ensures.value, c.split_into.new.hands.ok) in
+    let back = taken c.split_into.new.hands.len c.work_all.new.hands (drop (length c.work_all.new.hands) c.split_into.new.hands.items) long in
+    subst (All (IsFree c.args.board.of)) (sym back) c.work_all.ensures.free
+
+pub close-sealed-requires-clause-seen : goal.close-sealed-requires-clause-seen
+close-sealed-requires-clause-seen g c = c.sees_all.ensures.all c.rounds-test.false
+
+pub returns : goal.returns
+returns g c = c.of.ensures ∙ (λ i. record { words = c.close-sealed.ensures.sealed i; pipes = (c.close-sealed.ensures.plan i).pipes })

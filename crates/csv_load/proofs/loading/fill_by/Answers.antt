@@ -4,7 +4,7 @@ use Rattle.column_table.specs.Table.{OpenTable}
 use Rattle.column_table.specs.declared.declared.ColumnDecl.{ColumnDecl}
 use Rattle.csv.specs.Records.{fields_of}
 use Rattle.csv_load.proofs.RowFacts.{cells_of-length, rows-more}
-use Rattle.csv_load.proofs.loading.fill_rows.Goals as goal
+use Rattle.csv_load.proofs.loading.fill_by.Goals as goal
 
 pub end_row-requires-clause-full : goal.end_row-requires-clause-full
 end_row-requires-clause-full c =
