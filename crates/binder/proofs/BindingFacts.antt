@@ -12,7 +12,7 @@ use Rattle.bound_query.specs.declared.output.OutColumn.{OutColumn}
 use Rattle.binder.specs.Binding.{condition_of, conditions_of, equality_of, output_of, query_of, table_number, tables_of}
 use Rattle.script_rules.specs.Conjuncts.{conjuncts_of}
 use Rattle.script_rules.specs.Scope.{Relation, name_of, scope_of}
-use Rattle.script_rules.specs.Faults.{refusal_of}
+use Rattle.script_rules.specs.Violations.{refusal_of}
 use Rattle.column_classes.specs.Variables.{AreEqualities, AreQueryVariables, AreWidths, QueryVariables}
 use Rattle.bound_query.specs.Query.{AreNarrow, IsBound, IsBoundQuery, Query, widths_in, widths_of}
 use Rattle.binder.proofs.BoundFacts.{query_of-few_columns, query_of-few_tables, query_of-IsBound}

@@ -22,7 +22,7 @@ use Rattle.column_classes.specs.declared.columns.ColumnRef.{ColumnRef}
 use Rattle.bound_query.specs.declared.output.OutColumn.{OutColumn}
 use Rattle.script_rules.specs.Scope.{IsWithinLimits, Relation, columns_of, resolve, name_of, relation_of, scope_of}
 use Rattle.script_rules.specs.Conjuncts.{columns_in, conjuncts_of, found, is_equality}
-use Rattle.script_rules.specs.Faults.{conjunct_faults, refusal_of}
+use Rattle.script_rules.specs.Violations.{conjunct_violations, refusal_of}
 use Rattle.bound_query.specs.Query.{IsBound, IsEqualityOf, IsColumnOf, Query, kinds_of}
 use Rattle.column_table.specs.Table.{types_of}
 use Rattle.binder.specs.Binding.{condition_of, equality_between, equality_of, item_output, output_of, declaration, is_declared, query_of, relation_output, table_number, tables_of}
@@ -154,7 +154,7 @@ module _ (script : Script) where
   unfolding query_of
   query_of-named = length-map sources name_of ∙ sym (length-map sources (table_number tables))
 
-  pub query_of-typed : flat_map (conjunct_faults scope) (conjuncts_of script) ≡ [] → (r : ℕ) (p : Pred) → slice_get q.conditions r ≡ Some p → IsTrue (is_typed (kinds_of q r) p)
+  pub query_of-typed : flat_map (conjunct_violations scope) (conjuncts_of script) ≡ [] → (r : ℕ) (p : Pred) → slice_get q.conditions r ≡ Some p → IsTrue (is_typed (kinds_of q r) p)
   unfolding query_of
   query_of-typed clear r p e =
       let f = condition_of scope (conjuncts_of script) in

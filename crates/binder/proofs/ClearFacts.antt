@@ -6,11 +6,11 @@ use Rattle.std.specs.Option.{option_or}
 use Rattle.std.proofs.lemmas.List.Elements.{All-cons, All-nil}
 use Rattle.rpt_base.proofs.ListFacts.{front-empty, back-empty}
 use Rattle.sql_grammar.specs.declared.tree.Script.{Script}
-use Rattle.script_rules.specs.declared.found.Fault.{Fault}
+use Rattle.script_rules.specs.declared.found.Violation.{Violation}
 use Rattle.script_rules.specs.Scope.{IsWithinLimits, scope_of}
 use Rattle.script_rules.specs.Conjuncts.{conjuncts_of}
-use Rattle.script_rules.specs.Faults.{conjunct_faults, each_behind, item_faults, refusal_of, source_faults, table_faults}
-use Rattle.script_rules.proofs.FaultFacts.{first_of-none}
+use Rattle.script_rules.specs.Violations.{conjunct_violations, each_behind, item_violations, refusal_of, source_violations, table_violations}
+use Rattle.script_rules.proofs.ViolationFacts.{first_of-none}
 use Rattle.script_rules.proofs.LimitFacts.{within_limits}
 
 pub and-left : (a b : Bool) → (a && b) ≡ true → a ≡ true
@@ -30,16 +30,16 @@ pub each-empty : {X Y : Type 0} (f : X → List Y) (xs : List X) → flat_map f 
 each-empty f [] h = All-nil (λ x. f x ≡ [])
 each-empty f (x ∷ xs) h = All-cons (λ x. f x ≡ []) x xs (front-empty (f x) (flat_map f xs) h) (each-empty f xs (back-empty (f x) (flat_map f xs) h))
 
-both-none : (a b : Option Fault) → option_or a b ≡ None → (a ≡ None) × (b ≡ None)
+both-none : (a b : Option Violation) → option_or a b ≡ None → (a ≡ None) × (b ≡ None)
 both-none None b h = (refl, h)
 both-none (Some f) b h = cc
 
 -- a script none of whose parts has a refusal
 pub record IsClear (script : Script) : Type 0 where
-  pub tables : each_behind table_faults [] script.tables ≡ []
-  pub sources : each_behind (source_faults script.tables) [] script.select.sources ≡ []
-  pub items : item_faults (scope_of script) script.select.items ≡ []
-  pub conjuncts : flat_map (conjunct_faults (scope_of script)) (conjuncts_of script) ≡ []
+  pub tables : each_behind table_violations [] script.tables ≡ []
+  pub sources : each_behind (source_violations script.tables) [] script.select.sources ≡ []
+  pub items : item_violations (scope_of script) script.select.items ≡ []
+  pub conjuncts : flat_map (conjunct_violations (scope_of script)) (conjuncts_of script) ≡ []
 
 pub refusal_of-none : (script : Script) → refusal_of script ≡ None → IsClear script
 unfolding refusal_of

@@ -1,7 +1,7 @@
 // Binding.
 ghost use Rattle.std.specs.Prelude.{◌≡◌, ◌≤◌, IfOk, Err, None, Some, ℕ, length};
 ghost use Rattle.binder.specs.Binding.{query_of};
-ghost use Rattle.script_rules.specs.Faults.{refusal_of};
+ghost use Rattle.script_rules.specs.Violations.{refusal_of};
 ghost use Rattle.script_rules.specs.declared.kinds.BindKind.{BindKind as Kind};
 
 use crate::conjuncts::conjuncts;
@@ -13,7 +13,7 @@ use crate::widths::variables;
 use crate::written::equalities;
 use bound_query::{Bound, QueryParts};
 use rpt_base::Memory;
-use script_rules::{Scope, first_fault};
+use script_rules::{Scope, first_violation};
 use sql_text::Script;
 use std::alloc::Global;
 
@@ -26,10 +26,10 @@ pub fn bind(alloc: Global, script: &Script) -> Result<Bound, BindError>
     ensures refused { (kind : Kind) (at : ℕ) → result ≡ Err (BindError.Refused kind at)
         → refusal_of script.now ≡ Some (record { at = at; kind = kind }) }
 {
-    if let Some(fault) = first_fault(script) {
+    if let Some(violation) = first_violation(script) {
         return Err(BindError::Refused {
-            kind: fault.kind,
-            at: fault.at,
+            kind: violation.kind,
+            at: violation.at,
         });
     }
     match bound(alloc, script) {

@@ -16,4 +16,4 @@ mod written;
 pub use binding::bind;
 pub use bound_query::{Bound, ColumnRef, Equality, OutColumn, table_at};
 pub use errors::BindError;
-pub use script_rules::{BindKind, Fault, first_fault};
+pub use script_rules::{BindKind, Violation, first_violation};

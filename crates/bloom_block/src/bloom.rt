@@ -5,7 +5,7 @@ use crate::hashes::place_hash;
 use key_codes::{Place, Placement};
 
 /// The places of items by the hashes of their keys.
-#[derive(Debug, Drop)]
+#[derive(Drop)]
 pub struct Bloom {
     hashes: Vec<u64>,
     ghost few: { length hashes.items < 2 ^ 32 },

@@ -17,7 +17,7 @@ use std::marker::Model;
 
 /// A bound query. Relations are numbered from 0 in the order of FROM, and tables in the order of their first
 /// use.
-#[derive(Debug, Drop)]
+#[derive(Drop)]
 pub struct Bound {
     parts: QueryParts,
     variables: Variables,

@@ -3,7 +3,7 @@ use column_classes::ColumnRef;
 use rpt_base::Name;
 
 /// A column of the output: the column of the query that it shows, and its title.
-#[derive(Debug, Drop)]
+#[derive(Drop)]
 pub struct OutColumn {
     pub source: ColumnRef,
     pub title: Name,

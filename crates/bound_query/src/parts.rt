@@ -7,7 +7,7 @@ use rpt_base::{Listed, Name};
 use std::marker::Model;
 
 /// What a query says, before its variables are known.
-#[derive(Debug, Drop)]
+#[derive(Drop)]
 pub struct QueryParts {
     /// The name that each relation goes by, in the order of FROM.
     pub aliases: Listed<Name>,

@@ -6,7 +6,7 @@ use crate::texts::put_line;
 use std::alloc::Global;
 
 /// A line of a case: its word, and what is behind it and one blank.
-#[derive(Debug, Drop)]
+#[derive(Drop)]
 pub struct Entry {
     pub word: String,
     pub rest: String,
@@ -17,7 +17,7 @@ pub struct Entry {
 /// In its paragraph the first line has the call's word, and what is behind that. Lines with other words than those of texts
 /// say more of what is called. Lines of text write what the call is asked of. A line `gives TEXT` is a line that is wanted,
 /// and lines of text behind it write more of that.
-#[derive(Debug, Drop)]
+#[derive(Drop)]
 pub struct Case {
     /// The call's word.
     pub word: String,

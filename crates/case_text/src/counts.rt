@@ -2,7 +2,7 @@
 use anyhow::{Result, ensure};
 
 /// How many cases gave what they should, and how many didn't.
-#[derive(Clone, Copy, Debug)]
+#[derive(Clone, Copy)]
 pub struct Counts {
     agree: u32,
     differ: u32,

@@ -8,7 +8,7 @@ pub struct ColumnRef {
 }
 
 /// A written equality of two columns.
-#[derive(Clone, Copy, Debug)]
+#[derive(Clone, Copy)]
 pub struct Equality {
     pub left: ColumnRef,
     pub right: ColumnRef,

@@ -14,7 +14,7 @@ use std::marker::Model;
 
 /// The variables of a query, numbered from 0 by their least columns. Contracts see them as three lists: the columns of each
 /// variable, and for each relation the pairs of its linked columns and the numbers of its variables.
-#[derive(Debug, Drop)]
+#[derive(Drop)]
 pub struct Variables {
     variables: Vec<Vec<ColumnRef>>,
     local: Vec<Vec<(u32, u32)>>,

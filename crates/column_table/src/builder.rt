@@ -16,7 +16,7 @@ use std::marker::Model;
 
 /// A table whose next row is being filled, value by value. Contracts see it as the types of the columns, the rows, and the
 /// values of the row that has begun.
-#[derive(Debug, Drop)]
+#[derive(Drop)]
 pub struct TableBuilder {
     // Each has a value for each row. What it has past them, and isn't filled, is left from a row that was given up.
     columns: Vec<Column>,

@@ -11,12 +11,12 @@ use std::alloc::Global;
 use std::marker::Model;
 
 /// A column. Contracts see it as its type and its values.
-#[derive(Debug, Drop)]
+#[derive(Drop)]
 pub(crate) struct Column {
     content: Content,
 }
 
-#[derive(Debug, Drop)]
+#[derive(Drop)]
 enum Content {
     Numbers(Vec<i64>),
     Texts(TextColumn),

@@ -9,7 +9,7 @@ use std::alloc::Global;
 use std::marker::Model;
 
 /// One bit for each row of a table. Contracts see it as that list, row 0 first.
-#[derive(Debug, Drop)]
+#[derive(Drop)]
 pub struct RowBits {
     // The bit of a row is in the word `row / 64`, at the place `row % 64` from the lowest bit on.
     words: Vec<u64>,

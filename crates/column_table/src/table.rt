@@ -11,7 +11,7 @@ use std::alloc::Global;
 use std::marker::Model;
 
 /// A table with typed columns. Contracts see it as the types of its columns and the list of its rows.
-#[derive(Debug, Drop)]
+#[derive(Drop)]
 pub struct Table {
     // A row that was refused may have begun in it.
     pub(crate) builder: TableBuilder,

@@ -10,7 +10,7 @@ use std::marker::Model;
 /// Texts in order, whose bytes stand one after another. Contracts see it as the list of the texts.
 ///
 /// A text costs its bytes and the place at which it ends.
-#[derive(Debug, Drop)]
+#[derive(Drop)]
 pub(crate) struct TextColumn {
     // May have more bytes than the texts, after a text that was refused.
     bytes: Vec<u8>,

@@ -10,7 +10,7 @@ use rpt_base::{FilterKind, Str};
 use std::alloc::Global;
 
 /// What the options and flags say. An option that doesn't stand there is none.
-#[derive(Debug, Drop)]
+#[derive(Drop)]
 pub(crate) struct Settings {
     pub(crate) filter: Option<FilterKind>,
     pub(crate) workers: Option<u32>,

@@ -10,7 +10,7 @@ use rpt_base::{FilterKind, Str};
 use std::alloc::Global;
 
 /// What is asked for.
-#[derive(Clone, Copy, Debug, PartialEq, Eq)]
+#[derive(Clone, Copy, PartialEq, Eq)]
 pub enum Mode {
     /// The answer's text.
     Run,
@@ -23,7 +23,7 @@ pub enum Mode {
 }
 
 /// What the words ask for.
-#[derive(Debug, Drop)]
+#[derive(Drop)]
 pub struct Command {
     pub mode: Mode,
     /// The name of the script's file; in mode sample a number, as `sample_number` reads it.

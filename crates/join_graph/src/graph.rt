@@ -12,7 +12,7 @@ use std::marker::Model;
 
 /// The relations of a query and the variables of each, which contracts see as a list of lists. Relations are numbered
 /// from 0. There are 1 to `MAX_RELATIONS` of them, and each has at most `MAX_COLUMNS` variables, which rise strictly.
-#[derive(Debug, Drop)]
+#[derive(Drop)]
 pub struct Graph {
     var_sets: Vec<Vec<u32>>,
 }
@@ -100,7 +100,7 @@ impl Graph {
         ensures joins { (result ≡ needed_of self.now) ↔ IsJoinList self.now tree.now.root tree.now.links }
     {
         // Reading the sets brings in what every graph keeps to, and with it a bound for the sum.
-        let _ = &self.var_sets;
+        let _sets = &self.var_sets;
         let mut sum = 0u32;
         for link in tree.links.as_slice() {
             sum += self.weight(link.child, link.parent);

@@ -12,7 +12,7 @@ use rpt_base::{FilterKind, Memory};
 use transfer_pass::TransferRun;
 
 /// What is told of a run over the query's tables. Its lists are in the order of FROM.
-#[derive(Clone, Copy, Debug)]
+#[derive(Clone, Copy)]
 pub struct RunPart<'a> {
     /// The kind of its filters.
     pub filter: FilterKind,

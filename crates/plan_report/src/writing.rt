@@ -14,7 +14,7 @@ use rpt_base::Memory;
 use std::alloc::Global;
 
 /// What is told of a query. Relations are numbered from 0 in the order of FROM.
-#[derive(Clone, Copy, Debug)]
+#[derive(Clone, Copy)]
 pub struct ReportInput<'a> {
     /// The query.
     pub bound: &'a Bound,
@@ -62,7 +62,7 @@ pub fn report(alloc: Global, input: &ReportInput) -> Result<Vec<u8>, Memory>
 {
     let bound = input.bound;
     // Asking for the sets brings in that each relation has one, and that the variables are those of the query.
-    let _ = bound.var_sets();
+    let _sets = bound.var_sets();
     let mut text = Vec::new(alloc);
     put_count(&mut text, bound)?;
     put_relations(&mut text, bound, &input.run)?;

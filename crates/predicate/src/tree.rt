@@ -3,7 +3,7 @@ use rpt_base::{Comparison, Str, Value};
 use sqlite_items::{Boxed, Items};
 
 /// What stands on a side of a comparison.
-#[derive(Debug, Drop)]
+#[derive(Drop)]
 pub enum Operand {
     /// The row's value in a column, numbered from 0.
     Column(u32),
@@ -11,7 +11,7 @@ pub enum Operand {
 }
 
 /// A condition on a row.
-#[derive(Debug, Drop)]
+#[derive(Drop)]
 pub enum Pred {
     /// All of them are true, which none always are.
     And(Items<Pred>),

@@ -6,7 +6,7 @@ use script_rules::BindKind;
 
 /// Why a command has no answer. Each has a status and a line of its own. Offsets are in bytes and rows are counted, both from
 /// 0; row 0 is the first record after the header.
-#[derive(Debug, Drop)]
+#[derive(Drop)]
 pub enum Refusal {
     /// The words are no command.
     Usage,

@@ -38,6 +38,6 @@ pub fn selected(
         return Ok(rows);
     }
     // Its contract says that the pairs are of columns of the table.
-    let _ = bound.var_sets();
+    let _sets = bound.var_sets();
     linked(alloc, table, &rows, pairs)
 }

@@ -1,7 +1,7 @@
 // Kinds of filters.
 
 /// Which filters are built from the tables' keys before anything is joined.
-#[derive(Clone, Copy, Debug, PartialEq, Eq)]
+#[derive(Clone, Copy, PartialEq, Eq)]
 pub enum FilterKind {
     /// Some keys that aren't there may pass.
     Bloom,

@@ -6,7 +6,7 @@ use std::marker::Model;
 /// A `Vec` that contracts see as the list of its items, so that what holds it is plain data to them.
 ///
 /// It is made from a `Vec` and gives it back, and takes no memory of its own.
-#[derive(Debug, Drop)]
+#[derive(Drop)]
 pub struct Listed<T> {
     items: Vec<T>,
 }

@@ -14,7 +14,7 @@ use std::str;
 ///
 /// It has 1 to 63 bytes of UTF-8, none of them below 32, none 127 and no double quote, and its ASCII letters are in lower
 /// case. So names are equal exactly where their bytes are.
-#[derive(Debug, Drop)]
+#[derive(Drop)]
 pub struct Name {
     text: String,
 }

@@ -1,5 +1,5 @@
 // Sets of relations.
 
 /// A set of a query's relations: bit i, from the lowest on, is relation i.
-#[derive(Clone, Copy, Debug, PartialEq, Eq)]
+#[derive(Clone, Copy, PartialEq, Eq)]
 pub struct RelSet(pub u32);

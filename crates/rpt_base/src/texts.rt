@@ -38,7 +38,7 @@ pub enum StrError {
 }
 
 /// UTF-8 text, which contracts see as the list of its bytes. Texts are ordered by their bytes.
-#[derive(Debug, Drop)]
+#[derive(Drop)]
 pub struct Str {
     text: String,
 }

@@ -11,14 +11,14 @@ pub enum ColumnType {
 }
 
 /// A value. Numbers come before texts.
-#[derive(Debug, Drop, PartialEq, Eq, PartialOrd, Ord)]
+#[derive(Drop, PartialEq, Eq, PartialOrd, Ord)]
 pub enum Value {
     Int(i64),
     Text(Str),
 }
 
 /// A value of a table, whose text is the table's own. Cells are ordered as values are.
-#[derive(Clone, Copy, Debug, PartialEq, Eq, PartialOrd, Ord)]
+#[derive(Clone, Copy, PartialEq, Eq, PartialOrd, Ord)]
 pub enum Cell<'a> {
     Int(i64),
     Text(&'a [u8]),

@@ -9,10 +9,10 @@ use Rattle.csv_load.specs.declared.errors.LoadError.TheVariants as load_error
 use Rattle.column_table.specs.Table.{Rows, types_of}
 use Rattle.column_table.specs.declared.declared.Decl.{Decl}
 use Rattle.csv_load.specs.FileTable.{file_table}
-use Rattle.script_rules.specs.declared.found.Fault.{Fault}
+use Rattle.script_rules.specs.declared.found.Violation.{Violation}
 use Rattle.bound_query.specs.Query.{BoundQuery, Query}
 use Rattle.binder.specs.Binding.{query_of}
-use Rattle.script_rules.specs.Faults.{refusal_of as script_refusal}
+use Rattle.script_rules.specs.Violations.{refusal_of as script_refusal}
 use Rattle.bound_query.specs.Answer.{counts_of}
 use Rattle.rpt_base.specs.declared.filters.FilterKind.{FilterKind}
 use Rattle.rpt_base.specs.declared.limits.TheConstants.{MAX_ROWS, MAX_SCRIPT_BYTES}
@@ -23,7 +23,7 @@ use Rattle.refusal_lines.specs.declared.errors.Refusal.TheVariants.{Usage, ReadF
 use Rattle.command_words.specs.declared.words.Command.{Command}
 use Rattle.command_words.specs.Words.{command_of}
 use Rattle.rpt_cli.specs.Scripts.{IsScript}
-use Rattle.rpt_cli.specs.Course.{Answer, Course, Ends, Asks, Finds, Gives, Leads, goes_on, over_files}
+use Rattle.rpt_cli.specs.Course.{Reply, Course, Ends, Asks, Finds, Gives, Leads, goes_on, over_files}
 use Rattle.rpt_cli.specs.Matters.{Found, IsFound}
 use Rattle.rpt_cli.specs.Orders.{order_of}
 use Rattle.command_words.specs.declared.words.Mode.{Mode}
@@ -36,10 +36,10 @@ use Rattle.sample_gen.specs.Script.{sample_script}
 use Rattle.sample_gen.specs.Tables.{sample_tables}
 use Rattle.rpt_cli.specs.Delivery.{Delivers}
 use Rattle.refusal_lines.specs.Message.{status_of}
-use Rattle.rpt_cli.specs.Outcome.{Answers}
+use Rattle.rpt_cli.specs.Outcome.{HasReply}
 
 -- an answer over the contents of files: no usage, and no fault; and no refusal of an order's names where none is given
-abbrev IsOverContents : Option (List ℕ) → Answer → Type 0
+abbrev IsOverContents : Option (List ℕ) → Reply → Type 0
 IsOverContents given (Ok text) = ⊤
 IsOverContents given (Err Usage) = ⊥
 IsOverContents given (Err (ReadFault name)) = ⊥
@@ -49,7 +49,7 @@ IsOverContents given (Err e) = ⊤
 
 -- each answer that ends the course is one over the contents of files
 abbrev EndsOverContents : Option (List ℕ) → Course → Type 0
-EndsOverContents given (Ends answer) = IsOverContents given answer
+EndsOverContents given (Ends reply) = IsOverContents given reply
 EndsOverContents given (Asks name next) = (bytes : List ℕ) → EndsOverContents given (next bytes)
 EndsOverContents given (Finds matter next) =
     ((e : Refusal) → IsFound matter (Err e) → IsOverContents given (Err e)) × ((x : Found matter) → EndsOverContents given (next x))
@@ -127,18 +127,18 @@ module _ (given : Option (List ℕ)) where
   script-refusal bytes Memory h = tt
 
   -- a course that ends so leads to no usage and no fault but of a file that it asks for, whose count rose
-  Leads-tells : (files : FilesSeen) (course : Course) (answer : Answer) → EndsOverContents given course
-      → Leads files course answer → IsOverContents given answer ⊎ ((name : List ℕ) × (answer ≡ Err (ReadFault name)) × Rose (files.before name) (files.now name))
-  Leads-tells files (Ends end) answer p e = inl (subst (IsOverContents given) (sym e) p)
-  Leads-tells files (Asks name next) answer p (inl fault) = inr (name, fault.0, fault.1)
-  Leads-tells files (Asks name next) answer p (inr read) = Leads-tells files (next read.0) answer (p read.0) read.2
-  Leads-tells files (Finds matter next) answer p l = by l.0 l.1.0 (λ x. Leads-tells files (next x) answer (p.1 x)) l.2
+  Leads-tells : (files : FilesSeen) (course : Course) (reply : Reply) → EndsOverContents given course
+      → Leads files course reply → IsOverContents given reply ⊎ ((name : List ℕ) × (reply ≡ Err (ReadFault name)) × Rose (files.before name) (files.now name))
+  Leads-tells files (Ends end) reply p e = inl (subst (IsOverContents given) (sym e) p)
+  Leads-tells files (Asks name next) reply p (inl fault) = inr (name, fault.0, fault.1)
+  Leads-tells files (Asks name next) reply p (inr read) = Leads-tells files (next read.0) reply (p read.0) read.2
+  Leads-tells files (Finds matter next) reply p l = by l.0 l.1.0 (λ x. Leads-tells files (next x) reply (p.1 x)) l.2
     where
       Told : Type 0
-      Told = IsOverContents given answer ⊎ ((name : List ℕ) × (answer ≡ Err (ReadFault name)) × Rose (files.before name) (files.now name))
+      Told = IsOverContents given reply ⊎ ((name : List ℕ) × (reply ≡ Err (ReadFault name)) × Rose (files.before name) (files.now name))
 
-      by : (r : Result (Found matter) Refusal) → IsFound matter r → ((x : Found matter) → Leads files (next x) answer → Told)
-          → MatchResult r (λ x. Leads files (next x) answer) (λ e. answer ≡ Err e) → Told
+      by : (r : Result (Found matter) Refusal) → IsFound matter r → ((x : Found matter) → Leads files (next x) reply → Told)
+          → MatchResult r (λ x. Leads files (next x) reply) (λ e. reply ≡ Err e) → Told
       by (Ok x) said more m = more x m
       by (Err e) said more m = inl (subst (IsOverContents given) (sym m) (p.0 e said))
 
@@ -159,7 +159,7 @@ query-ends command query = (
   λ found. mode-ends command.order command.mode command.filter command.folder (record { query = query; known = found.known }) found.order,
 )
 
-read-ends : (command : Command) (fault : Option Fault) (query : Query) → EndsOverContents command.order (goes_on (query_or fault query) (query_course command))
+read-ends : (command : Command) (fault : Option Violation) (query : Query) → EndsOverContents command.order (goes_on (query_or fault query) (query_course command))
 read-ends command None query = query-ends command query
 read-ends command (Some fault) query = tt
 
@@ -178,16 +178,16 @@ command-ends : (command : Command) → EndsOverContents command.order (command_c
 command-ends command = either command.order (is_made command.mode) (sample_course command) (files_course command) (sample-ends command) (files-ends command)
 
 -- the same of the words' course, which ends at once with a usage where the words are no command
-abbrev Tells : FilesSeen → Option Command → Answer → Type 0
-Tells files None answer = answer ≡ Err Usage
-Tells files (Some command) answer = IsOverContents command.order answer ⊎ ((name : List ℕ) × (answer ≡ Err (ReadFault name)) × Rose (files.before name) (files.now name))
+abbrev Tells : FilesSeen → Option Command → Reply → Type 0
+Tells files None reply = reply ≡ Err Usage
+Tells files (Some command) reply = IsOverContents command.order reply ⊎ ((name : List ℕ) × (reply ≡ Err (ReadFault name)) × Rose (files.before name) (files.now name))
 
-course-tells : (files : FilesSeen) (command : Option Command) (answer : Answer)
-    → Gives files (course_of command) answer → (answer ≡ Err Memory) ⊎ Tells files command answer
-course-tells files command answer (inl memory) = inl memory
-course-tells files None answer (inr leads) = inr leads
-course-tells files (Some command) answer (inr leads) =
-    inr (Leads-tells command.order files (command_course command) answer (command-ends command) leads)
+course-tells : (files : FilesSeen) (command : Option Command) (reply : Reply)
+    → Gives files (course_of command) reply → (reply ≡ Err Memory) ⊎ Tells files command reply
+course-tells files command reply (inl memory) = inl memory
+course-tells files None reply (inr leads) = inr leads
+course-tells files (Some command) reply (inr leads) =
+    inr (Leads-tells command.order files (command_course command) reply (command-ends command) leads)
 
 -- what a status of an answer over contents tells
 pub record StatusOver (given : Option (List ℕ)) (status : ℕ) : Type 0 where
@@ -224,8 +224,8 @@ pub record StatusTells {S : Type 0} (command : Option Command) (files : FilesSee
   pub read_fault : status ≡ 3 → (name : List ℕ) × Rose (files.before name) (files.now name)
   pub write_fault : status ≡ 4 → Rose out.before out.now
 
-delivered-tells : {S M : Type 0} (command : Option Command) (files : FilesSeen) (out : SinkSeen S) (messages : SinkSeen M) (status : ℕ) (answer : Answer) → (answer ≡ Err Memory) ⊎ Tells files command answer
-    → Delivers out messages status answer
+delivered-tells : {S M : Type 0} (command : Option Command) (files : FilesSeen) (out : SinkSeen S) (messages : SinkSeen M) (status : ℕ) (reply : Reply) → (reply ≡ Err Memory) ⊎ Tells files command reply
+    → Delivers out messages status reply
     → StatusTells command files out status
 delivered-tells command files out messages status (Ok text) t (inl d) =
     let zero : status ≡ 0 = d.0 in record { usage = λ h. absurd (omega arith); read_fault = λ h. absurd (omega arith); write_fault = λ h. absurd (omega arith) }
@@ -251,9 +251,9 @@ delivered-tells (Some command) files out messages status (Err e) (inr (inr fault
     let three : status ≡ 3 = d.0 ∙ ap status_of is in
     record { usage = λ h. absurd (omega arith); read_fault = λ h. (fault.0, fault.2); write_fault = λ h. absurd (omega arith) }
 
-pub Answers-tells : {S M : Type 0} {files : FilesSeen} {out : SinkSeen S} {messages : SinkSeen M} {status : ℕ} (words : List (List ℕ))
-    → Answers files out messages (course words) status
+pub HasReply-tells : {S M : Type 0} {files : FilesSeen} {out : SinkSeen S} {messages : SinkSeen M} {status : ℕ} (words : List (List ℕ))
+    → HasReply files out messages (course words) status
     → StatusTells (command_of words) files out status
-Answers-tells {files = files} {out = out} {messages = messages} {status = status} words r =
-    delivered-tells (command_of words) files out messages status r.answer
-    (course-tells files (command_of words) r.answer r.cause) r.delivered
+HasReply-tells {files = files} {out = out} {messages = messages} {status = status} words r =
+    delivered-tells (command_of words) files out messages status r.reply
+    (course-tells files (command_of words) r.reply r.cause) r.delivered

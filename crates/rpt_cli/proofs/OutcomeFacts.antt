@@ -23,8 +23,8 @@ use Rattle.sql_grammar.proofs.Formed.{formed}
 use Rattle.column_classes.specs.declared.columns.Equality.{Equality}
 use Rattle.column_classes.specs.Variables.{AreEqualities, AreQueryVariables, AreWidths, QueryVariables}
 use Rattle.column_classes.proofs.Unique.{sets-are-rising, sets-are-short}
-use Rattle.script_rules.specs.declared.found.Fault.{Fault}
-use Rattle.script_rules.specs.Faults.{refusal_of as script_refusal}
+use Rattle.script_rules.specs.declared.found.Violation.{Violation}
+use Rattle.script_rules.specs.Violations.{refusal_of as script_refusal}
 use Rattle.bound_query.specs.Answer.{counts_of}
 use Rattle.bound_query.specs.Query.{BoundQuery, IsBound, Query, widths_of}
 use Rattle.bound_query.proofs.WidthFacts.{equalities-are, widths-are, widths-length}
@@ -44,7 +44,7 @@ use Rattle.command_words.specs.declared.words.Mode.TheVariants as mode
 use Rattle.command_words.specs.Words.{command_of}
 use Rattle.refusal_lines.specs.declared.errors.Refusal.{Refusal}
 use Rattle.refusal_lines.specs.declared.errors.Refusal.TheVariants.{TooLarge, Lex, Cyclic, OrderNames, UnsafeOrder, TooManyRows, Memory}
-use Rattle.rpt_cli.specs.Course.{Answer, Asks, Course, Ends, Finds, IsOutcome, goes_on, over_files}
+use Rattle.rpt_cli.specs.Course.{Reply, Asks, Course, Ends, Finds, IsOutcome, goes_on, over_files}
 use Rattle.rpt_cli.specs.Command.{answer_text, bytes_course, command_course, course, course_of, explain_text, files_course, is_made, join_course, mode_course, most_table_bytes, number_of, query_course, query_or, sample_course, summary_text, tables_course, unless_overflow}
 use Rattle.rpt_cli.specs.Matters.{AreKnown, Found, IsFound, IsPlanned, IsPrepared, Matter, Planning, Prepared, Preparing, Reading}
 use Rattle.rpt_cli.specs.Orders.{named_order, order_of, pieces_of, relation_named}
@@ -118,7 +118,7 @@ module _ (laws : HasReadings) (reasons : HasOneReason) (plan : HasOnePlan) where
   found-one (Planning sets sizes order) a b p q = planned-only plan sets sizes order b a q p
 
   -- a course has one outcome
-  pub outcome-one : (told : List ℕ → Option (List ℕ)) (course : Course) (a b : Answer) → IsOutcome told course a → IsOutcome told course b → a ≡ b
+  pub outcome-one : (told : List ℕ → Option (List ℕ)) (course : Course) (a b : Reply) → IsOutcome told course a → IsOutcome told course b → a ≡ b
   outcome-one told (Ends end) a b p q = p ∙ sym q
   outcome-one told (Asks name next) a b p q =
       let both : ◌≡◌ {A = Option (List ℕ)} (Some p.0) (Some q.0) = sym p.1 ∙ q.1 in
@@ -140,17 +140,17 @@ CanEnd (Asks name next) = (bytes : List ℕ) → CanEnd (next bytes)
 CanEnd (Finds matter next) = ((found : Result (Found matter) Refusal) × IsFound matter found) × ((x : Found matter) → IsFound matter (Ok x) → CanEnd (next x))
 
 -- over files that tell all it has an outcome
-pub outcome-there : (told : List ℕ → Option (List ℕ)) → ((name : List ℕ) → IsSome (told name)) → (course : Course) → CanEnd course → (answer : Answer) × IsOutcome told course answer
+pub outcome-there : (told : List ℕ → Option (List ℕ)) → ((name : List ℕ) → IsSome (told name)) → (course : Course) → CanEnd course → (answer : Reply) × IsOutcome told course answer
 outcome-there told all (Ends end) c = (end, refl)
 outcome-there told all (Asks name next) c = by (told name) refl (all name) (λ bytes. outcome-there told all (next bytes) (c bytes))
   where
-    by : (o : Option (List ℕ)) → told name ≡ o → IsSome o → ((bytes : List ℕ) → (answer : Answer) × IsOutcome told (next bytes) answer) → (answer : Answer) × IsOutcome told (Asks name next) answer
+    by : (o : Option (List ℕ)) → told name ≡ o → IsSome o → ((bytes : List ℕ) → (answer : Reply) × IsOutcome told (next bytes) answer) → (answer : Reply) × IsOutcome told (Asks name next) answer
     by None e some more = absurd (cc some)
     by (Some bytes) e some more = let rest = more bytes in (rest.0, (bytes, e, rest.1))
 outcome-there told all (Finds matter next) c = by c.0.0 c.0.1 (λ x is. outcome-there told all (next x) (c.1 x is))
   where
-    by : (r : Result (Found matter) Refusal) → IsFound matter r → ((x : Found matter) → IsFound matter (Ok x) → (answer : Answer) × IsOutcome told (next x) answer)
-        → (answer : Answer) × IsOutcome told (Finds matter next) answer
+    by : (r : Result (Found matter) Refusal) → IsFound matter r → ((x : Found matter) → IsFound matter (Ok x) → (answer : Reply) × IsOutcome told (next x) answer)
+        → (answer : Reply) × IsOutcome told (Finds matter next) answer
     by (Ok x) is more = let rest = more x is in (rest.0, (Ok x, is, rest.1))
     by (Err e) is more = (Err e, (Err e, is, refl))
 
@@ -296,7 +296,7 @@ module _ (front : HasReadings) (laws : HasPlans) where
       from [] h = absurd h
       from (source ∷ sources) h = omega arith
 
-  read-can : (command : Command) (script : Script) → 1 ≤ length script.select.sources → (fault : Option Fault) → script_refusal script ≡ fault
+  read-can : (command : Command) (script : Script) → 1 ≤ length script.select.sources → (fault : Option Violation) → script_refusal script ≡ fault
       → CanEnd (goes_on (query_or fault (query_of script)) (query_course command))
   read-can command script some None e = query-can command (query_of script) (query_of-IsBound script some e)
   read-can command script some (Some fault) e = tt

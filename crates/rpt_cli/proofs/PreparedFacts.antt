@@ -117,8 +117,8 @@ module _ (laws : HasOneReason) (query : Query) (order : Option (List ℕ)) (forc
 -- a query that is prepared is passed, and one that is refused ends the course
 module _ (laws : HasOneReason) (query : Query) (order : Option (List ℕ)) (force : Bool) where
   pub prepared-Passes : (found : Prepared) → IsPrepared query order force (Ok found) → PassesUnasked (Finds (Preparing query order force)) found
-  prepared-Passes found is = λ files next answer gives.
-      finds-Gives files (Preparing query order force) next found answer (is, λ other other_is. prepared-only laws query order force (Ok found) other is other_is) gives
+  prepared-Passes found is = λ files next reply gives.
+      finds-Gives files (Preparing query order force) next found reply (is, λ other other_is. prepared-only laws query order force (Ok found) other is other_is) gives
 
   pub prepared-Stops : (e : Refusal) → (e ≡ Memory) ⊎ IsPrepared query order force (Err e) → StopsUnasked (Finds (Preparing query order force)) e
   prepared-Stops e is = λ files next. refuses-Gives files (Preparing query order force) next e (found is)

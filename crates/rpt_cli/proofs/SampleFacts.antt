@@ -7,7 +7,7 @@ use Rattle.command_words.specs.Words.{sample_number}
 use Rattle.rpt_outside.specs.Held.{bytes_at, held_bytes, place}
 use Rattle.rpt_outside.specs.Seen.{FilesSeen}
 use Rattle.rpt_cli.specs.Command.{bytes_course, number_of, query_course, sample_course}
-use Rattle.rpt_cli.specs.Course.{Answer, Course, Gives}
+use Rattle.rpt_cli.specs.Course.{Reply, Course, Gives}
 use Rattle.key_codes.specs.Hashes.{fnv}
 use Rattle.rpt_cli.specs.Sample.{file_bytes, hash_line, size_line, size_lines}
 use Rattle.rpt_cli.specs.Tables.{table_file}
@@ -50,15 +50,15 @@ number-said command script read number is reads same = is ∙ ap (λ (o : Option
 -- what a sample's script gives over its tables, held as files, is its course's
 pub sample-Gives : (command : Command) {number : ℕ} {tables : List (List ℕ × List ℕ)} {script : List ℕ} {contents : List ℕ → Option (List ℕ)}
     → number ≡ number_of command → tables ≡ sample_tables number → script ≡ sample_script → contents ≡ (λ name. Some (file_bytes command.folder tables name))
-    → (answer : Answer) → Gives (unfailing contents) (bytes_course script (query_course command)) answer
-    → (files : FilesSeen) → Gives files (sample_course command) answer
-sample-Gives command {number = number} {tables = tables} {script = script} {contents = contents} same_number same_tables same_script same_contents answer gives files =
+    → (reply : Reply) → Gives (unfailing contents) (bytes_course script (query_course command)) reply
+    → (files : FilesSeen) → Gives files (sample_course command) reply
+sample-Gives command {number = number} {tables = tables} {script = script} {contents = contents} same_number same_tables same_script same_contents reply gives files =
     let held : List ℕ → List ℕ = file_bytes command.folder (sample_tables (number_of command)) in
     let course : List ℕ → Course = λ bytes. bytes_course bytes (query_course command) in
     let all : tables ≡ sample_tables (number_of command) = same_tables ∙ ap sample_tables same_number in
-    let over = subst (λ (f : List ℕ → Option (List ℕ)). Gives (unfailing f) (course script) answer) (same_contents ∙ (λ i name. Some (file_bytes command.folder (all i) name))) gives in
-    over-Gives held files (course sample_script) answer
-    (subst (λ (bytes : List ℕ). Gives (unfailing (λ name. Some (held name))) (course bytes) answer) same_script over)
+    let over = subst (λ (f : List ℕ → Option (List ℕ)). Gives (unfailing f) (course script) reply) (same_contents ∙ (λ i name. Some (file_bytes command.folder (all i) name))) gives in
+    over-Gives held files (course sample_script) reply
+    (subst (λ (bytes : List ℕ). Gives (unfailing (λ name. Some (held name))) (course bytes) reply) same_script over)
 
 -- the lines of a text's size and its hash, one after the other
 pub sizes-put : (before between after text : List ℕ) (hash : ℕ) → between ≡ before ++ size_line (length text) → after ≡ between ++ hash_line hash → hash ≡ fnv text

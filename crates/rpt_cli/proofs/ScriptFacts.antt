@@ -111,9 +111,9 @@ bad-only-as bytes e offset is none same said h = bad-only bytes offset (λ token
 module _ {F : Type 0} (words : FileWords F) (old new : F) (name bytes lent : List ℕ) (same : lent ≡ bytes)
     (read : Passes words old new (asks_within MAX_SCRIPT_BYTES name) bytes) where
   file-Passes : (query : Query) → PassesUnasked (bytes_course lent) query → Passes words old new (script_course name) query
-  file-Passes query passes = λ next end answer gives.
-      read (λ bs. bytes_course bs next) end answer
-      (subst (λ (bs : List ℕ). Gives (seen_until words new end) (bytes_course bs next) answer) same (passes (seen_until words new end) next answer gives))
+  file-Passes query passes = λ next end reply gives.
+      read (λ bs. bytes_course bs next) end reply
+      (subst (λ (bs : List ℕ). Gives (seen_until words new end) (bytes_course bs next) reply) same (passes (seen_until words new end) next reply gives))
 
   file-Stops : (e : Refusal) → StopsUnasked (bytes_course lent) e → Stops words old new (script_course name) e
   file-Stops e stops = λ next.

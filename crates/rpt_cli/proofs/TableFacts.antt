@@ -11,7 +11,7 @@ use Rattle.rpt_outside.specs.Seen.{seen, seen_until}
 use Rattle.rpt_outside.specs.declared.traits.Files.{Ghosts as FileWords}
 use Rattle.refusal_lines.specs.declared.errors.Refusal.{Refusal}
 use Rattle.refusal_lines.specs.declared.errors.Refusal.TheVariants.{Memory}
-use Rattle.rpt_cli.specs.Course.{Answer, Course, Gives, goes_on}
+use Rattle.rpt_cli.specs.Course.{Reply, Course, Gives, goes_on}
 use Rattle.rpt_cli.specs.Command.{asks_within, load_course, table_course, tables_course}
 use Rattle.rpt_cli.specs.Steps.{AreKept, Passes, Stops}
 use Rattle.rpt_cli.proofs.KeptFacts.{kept-next}
@@ -34,9 +34,9 @@ pushed (Err e) after before x is none = cc none
 -- leads to, the course of all tables leads to.
 pub record HasCome {F : Type 0} (words : FileWords F) (folder : List ℕ) (old new : F) (decls : List Decl) (room : ℕ) (tables : List Rows) (number : ℕ) : Type 0 where
   pub kinds : map (λ (t : Rows). t.kinds) tables ≡ map (λ (d : Decl). types_of d.columns) (take number decls)
-  pub goes : (next : List Rows → Course) (end : List ℕ → ℕ) (answer : Answer)
-      → Gives (seen_until words new end) (tables_course folder next room tables (drop number decls)) answer
-      → Gives (seen_until words old end) (load_course folder decls next) answer
+  pub goes : (next : List Rows → Course) (end : List ℕ → ℕ) (reply : Reply)
+      → Gives (seen_until words new end) (tables_course folder next room tables (drop number decls)) reply
+      → Gives (seen_until words old end) (load_course folder decls next) reply
   pub kept : AreKept words old new
 
 module _ {F : Type 0} (words : FileWords F) (folder : List ℕ) where
@@ -44,11 +44,11 @@ module _ {F : Type 0} (words : FileWords F) (folder : List ℕ) where
   pub table-Passes : (old new : F) (room : ℕ) (decl : Decl) (name bytes : List ℕ) (table : Rows) → name ≡ table_file folder decl.name
       → Passes words old new (asks_within room name) bytes → table_of decl bytes ≡ Ok table
       → Passes words old new (table_course room folder decl) (table, room - length bytes)
-  table-Passes old new room decl name bytes table named passes is = λ next end answer gives.
+  table-Passes old new room decl name bytes table named passes is = λ next end reply gives.
       let goes : List ℕ → Course = λ read. goes_on (table_of decl read) (λ t. next (t, room - length read)) in
-      let here : Gives (seen_until words new end) (goes bytes) answer =
-      subst (λ (r : Result Rows Refusal). Gives (seen_until words new end) (goes_on r (λ t. next (t, room - length bytes))) answer) (sym is) gives in
-      subst (λ (file : List ℕ). Gives (seen_until words old end) (asks_within room file goes) answer) named (passes goes end answer here)
+      let here : Gives (seen_until words new end) (goes bytes) reply =
+      subst (λ (r : Result Rows Refusal). Gives (seen_until words new end) (goes_on r (λ t. next (t, room - length bytes))) reply) (sym is) gives in
+      subst (λ (file : List ℕ). Gives (seen_until words old end) (asks_within room file goes) reply) named (passes goes end reply here)
 
   -- a file that isn't had ends the course, and so do bytes that are no table
   pub file-Stops : (old new : F) (room : ℕ) (decl : Decl) (name : List ℕ) (e : Refusal) → name ≡ table_file folder decl.name
@@ -83,9 +83,9 @@ module _ {F : Type 0} (words : FileWords F) (folder : List ℕ) where
           ∙ ap (λ ks. ks ++ read.0.kinds ∷ []) has.kinds
           ∙ ap (λ k. map (λ (d : Decl). types_of d.columns) (take number decls) ++ k ∷ []) kinds_are
           ∙ sym (ap (map (λ (d : Decl). types_of d.columns)) (take_to decls number decl here) ∙ map-append (λ (d : Decl). types_of d.columns) (take number decls) (decl ∷ []));
-      goes = λ next end answer gives.
-          has.goes next end answer (subst (λ (ds : List Decl). Gives (seen_until words now end) (tables_course folder next room tables ds) answer) (sym (drop_from decls number decl here))
-          (passes (λ r. tables_course folder next r.1 (tables ++ r.0 ∷ []) (drop (number + 1) decls)) end answer gives));
+      goes = λ next end reply gives.
+          has.goes next end reply (subst (λ (ds : List Decl). Gives (seen_until words now end) (tables_course folder next room tables ds) reply) (sym (drop_from decls number decl here))
+          (passes (λ r. tables_course folder next r.1 (tables ++ r.0 ∷ []) (drop (number + 1) decls)) end reply gives));
       kept = kept-next words old now new has.kept kept;
     }
 
@@ -96,5 +96,5 @@ module _ {F : Type 0} (words : FileWords F) (folder : List ℕ) where
 
     -- after all tables the course goes on with them
     pub HasCome-ends : Passes words old now (load_course folder query.tables) tables
-    HasCome-ends = λ next end answer gives.
-        has.goes next end answer (subst (λ (ds : List Decl). Gives (seen_until words now end) (tables_course folder next room tables ds) answer) (sym (drop_all number query.tables all)) gives)
+    HasCome-ends = λ next end reply gives.
+        has.goes next end reply (subst (λ (ds : List Decl). Gives (seen_until words now end) (tables_course folder next room tables ds) reply) (sym (drop_all number query.tables all)) gives)

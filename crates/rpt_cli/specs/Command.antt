@@ -10,8 +10,8 @@ use Rattle.rpt_base.specs.declared.filters.FilterKind.{FilterKind}
 use Rattle.rpt_base.specs.declared.limits.TheConstants.{MAX_SCRIPT_BYTES, MAX_TABLE_BYTES, MAX_ROWS}
 use Rattle.column_table.specs.declared.declared.Decl.{Decl}
 use Rattle.column_table.specs.Table.{Rows}
-use Rattle.script_rules.specs.declared.found.Fault.{Fault}
-use Rattle.script_rules.specs.Faults.{refusal_of as script_refusal}
+use Rattle.script_rules.specs.declared.found.Violation.{Violation}
+use Rattle.script_rules.specs.Violations.{refusal_of as script_refusal}
 use Rattle.sql_grammar.specs.declared.tree.Script.{Script}
 use Rattle.bound_query.specs.Query.{BoundQuery, Query}
 use Rattle.bound_query.specs.Answer.{answer_of, counts_of}
@@ -41,7 +41,7 @@ asks_within limit name next =
     Asks name (λ bytes. if nat_lt limit (length bytes) then Ends (Err (TooLarge name)) else next bytes)
 
 -- the bound query of a script, or its first refusal: row 7
-abbrev pub query_or : Option Fault → Query → Result Query Refusal
+abbrev pub query_or : Option Violation → Query → Result Query Refusal
 query_or None query = Ok query
 query_or (Some fault) query = Err (Bind fault.kind fault.at)
 

@@ -20,19 +20,19 @@ use Rattle.rpt_engine.specs.declared.errors.PrepareError.{PrepareError}
 use Rattle.rpt_engine.specs.declared.errors.PrepareError.TheVariants as prepare_error
 use Rattle.refusal_lines.specs.declared.errors.Refusal.{Refusal}
 use Rattle.refusal_lines.specs.declared.errors.Refusal.TheVariants.{Cyclic, OrderNames, UnsafeOrder, Memory}
-use Rattle.rpt_cli.specs.Course.{Answer, Course, Gives}
+use Rattle.rpt_cli.specs.Course.{Reply, Course, Gives}
 use Rattle.rpt_cli.specs.Scripts.{IsScript}
 
 -- the files' contents are what they were, and no count of a file fell
 abbrev pub AreKept : {F : Type 0} → FileWords F → F → F → Type 0
 AreKept words old new = (words.contents new ≡ words.contents old) × NeverFalls (words.faults old) (words.faults new)
 
--- The part of a course in front of what follows comes to this, over files that were so at its begin and at its end: each answer
+-- The part of a course in front of what follows comes to this, over files that were so at its begin and at its end: each reply
 -- that what follows gives, the whole gives.
 abbrev pub Passes : {F X : Type 0} → FileWords F → F → F → ((X → Course) → Course) → X → Type 0
 Passes {X = X} words old new part x =
-    (next : X → Course) (end : List ℕ → ℕ) (answer : Answer)
-    → Gives (seen_until words new end) (next x) answer → Gives (seen_until words old end) (part next) answer
+    (next : X → Course) (end : List ℕ → ℕ) (reply : Reply)
+    → Gives (seen_until words new end) (next x) reply → Gives (seen_until words old end) (part next) reply
 
 -- the part of a course in front of what follows ends it so, whatever follows
 abbrev pub Stops : {F X : Type 0} → FileWords F → F → F → ((X → Course) → Course) → Refusal → Type 0
@@ -41,15 +41,15 @@ Stops {X = X} words old new part e = (next : X → Course) → Gives (seen words
 -- the same of a part that asks for no file
 abbrev pub PassesUnasked : {X : Type 0} → ((X → Course) → Course) → X → Type 0
 PassesUnasked {X = X} part x =
-    (files : FilesSeen) (next : X → Course) (answer : Answer)
-    → Gives files (next x) answer → Gives files (part next) answer
+    (files : FilesSeen) (next : X → Course) (reply : Reply)
+    → Gives files (next x) reply → Gives files (part next) reply
 
 abbrev pub StopsUnasked : {X : Type 0} → ((X → Course) → Course) → Refusal → Type 0
 StopsUnasked {X = X} part e = (files : FilesSeen) (next : X → Course) → Gives files (part next) (Err e)
 
--- the course, which asks for no file, leads to this answer, or memory ran out
-abbrev pub GivesUnasked : Course → Answer → Type 0
-GivesUnasked course answer = (files : FilesSeen) → Gives files course answer
+-- the course, which asks for no file, leads to this reply, or memory ran out
+abbrev pub GivesUnasked : Course → Reply → Type 0
+GivesUnasked course reply = (files : FilesSeen) → Gives files course reply
 
 -- what a definition says; or memory ran out
 abbrev pub Makes : {X : Type 0} → Result X Refusal → Result X Refusal → Type 0

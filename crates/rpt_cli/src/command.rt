@@ -7,10 +7,10 @@ ghost use Rattle.rpt_outside.specs.Seen.{put_to, seen};
 ghost use Rattle.command_words.specs.Words.{command_of, words_of};
 ghost use Rattle.command_words.specs.declared.words.Command.{Command};
 ghost use Rattle.command_words.specs.declared.words.Mode.TheVariants as mode;
-ghost use Rattle.rpt_cli.specs.Course.{Answer, IsOutcome, NoneRose};
+ghost use Rattle.rpt_cli.specs.Course.{Reply, IsOutcome, NoneRose};
 ghost use Rattle.rpt_cli.specs.Command.{course};
 ghost use Rattle.rpt_cli.specs.Explained.{IsExplained};
-ghost use Rattle.rpt_cli.specs.Outcome.{Answers};
+ghost use Rattle.rpt_cli.specs.Outcome.{HasReply};
 
 use crate::deliver::deliver;
 use crate::reply::reply_to;
@@ -18,7 +18,7 @@ use rpt_outside::{Files, Gate, Sink};
 use std::alloc::Global;
 use std::thread::Threads;
 
-/// Answers the words of a command line, without the program's name, and gives the status.
+/// HasReply the words of a command line, without the program's name, and gives the status.
 ///
 /// The words `run SCRIPT DIR` put the answer of the script over the tables' files in the folder to `out`;
 /// `explain SCRIPT DIR` the report of how it was answered, with the numbers of rows; and `check SCRIPT DIR` the report of
@@ -35,14 +35,14 @@ pub fn run_command<R: Threads + Sync, F: Files, S: Sink, M: Sink, G: Gate + Sync
     messages: &mut M,
     gate: &G,
 ) -> u8
-    // The whole truth: some answer has its cause, and is what was delivered.
-    ensures answers { Answers (seen F.Files files.old files.new) (put_to S.Sink out.old out.new)
+    // The whole truth: some reply has its cause, and is what was delivered.
+    ensures reply { HasReply (seen F.Files files.old files.new) (put_to S.Sink out.old out.new)
         (put_to M.Sink messages.old messages.new) (course (words_of words.now)) result }
 
     // Where the files tell what the command asks for, the output is the text of that.
-    ensures text { result ≡ 0 → (answer : Answer)
-        → IsOutcome (F.contents files.old) (course (words_of words.now)) answer
-        → IsOkAnd answer (λ text. Appends (S.taken out.old) (S.taken out.new) text) }
+    ensures text { result ≡ 0 → (reply : Reply)
+        → IsOutcome (F.contents files.old) (course (words_of words.now)) reply
+        → IsOkAnd reply (λ text. Appends (S.taken out.old) (S.taken out.new) text) }
 
     // What explain prints: each prefix count of an accepted order is that prefix's number of tuples, and at most the
     // answer's.
@@ -67,8 +67,8 @@ pub fn run_command<R: Threads + Sync, F: Files, S: Sink, M: Sink, G: Gate + Sync
     ensures quiet { result ≡ 0 → messages.new ≡ messages.old }
 
     // Where no fault comes in between, there is a text, or memory ran out.
-    ensures complete { (answer : Answer) → IsOutcome (F.contents files.old) (course (words_of words.now)) answer
-        → IsOk answer
+    ensures complete { (reply : Reply) → IsOutcome (F.contents files.old) (course (words_of words.now)) reply
+        → IsOk reply
         → NoneRose (seen F.Files files.old files.new) (course (words_of words.now))
         → S.faults out.new < min (S.faults out.old + 1) (2 ^ 64 - 1)
         → (result ≡ 0) ⊎ (result ≡ 1) }

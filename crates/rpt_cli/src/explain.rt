@@ -74,8 +74,6 @@ fn report_outcome<'a>(
     ensures { IfOk result (λ text. text.items
         ≡ explain_text ready.now.options.filter ready.now.bound tables.now (plan_of outcome.now)) }
 {
-    // Only the clauses name the tables.
-    let _ = tables;
     let run = RunPart {
         filter: ready.options.filter,
         rows,

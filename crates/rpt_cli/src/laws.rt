@@ -1,6 +1,6 @@
 // What the course of a command says of its outcome.
 ghost use Rattle.std.specs.Prelude.{◌≡◌, ℕ, List, Option, IsSome};
-ghost use Rattle.rpt_cli.specs.Course.{Answer, Course as Steps, IsOutcome};
+ghost use Rattle.rpt_cli.specs.Course.{Reply, Course as Steps, IsOutcome};
 ghost use Rattle.rpt_cli.specs.Command.{course};
 
 use column_classes::has_variables;
@@ -14,7 +14,7 @@ use sql_lex::tokens_are_read;
 /// words leads to one: the text or the refusal that is due, so that no clause on the outcome speaks of nothing.
 pub fn has_outcome()
     ensures there { (told : List ℕ → Option (List ℕ)) (words : List (List ℕ))
-        → ((name : List ℕ) → IsSome (told name)) → (answer : Answer) × IsOutcome told (course words) answer }
+        → ((name : List ℕ) → IsSome (told name)) → (reply : Reply) × IsOutcome told (course words) reply }
 {
     tokens_are_read();
     has_a_reading();
@@ -27,7 +27,7 @@ pub fn has_outcome()
 
 /// The theorem that there is no second outcome; the call does nothing. Whatever the files tell, any course has one at most.
 pub fn has_one_outcome()
-    ensures one { (told : List ℕ → Option (List ℕ)) (course : Steps) (a b : Answer)
+    ensures one { (told : List ℕ → Option (List ℕ)) (course : Steps) (a b : Reply)
         → IsOutcome told course a → IsOutcome told course b → a ≡ b }
 {
     tokens_are_read();

@@ -2,7 +2,7 @@
 use rpt_base::{FilterKind, Listed};
 
 /// How a query is answered. None of this changes the answer.
-#[derive(Debug, Drop)]
+#[derive(Drop)]
 pub struct Options {
     /// The filters that go along the tree.
     pub filter: FilterKind,

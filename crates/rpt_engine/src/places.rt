@@ -4,7 +4,7 @@ use exact_filter::{Exact, RowPlaces};
 use key_codes::{Place, Placement};
 
 /// The places of a relation's items: by their keys with another relation, or by themselves.
-#[derive(Debug, Drop)]
+#[derive(Drop)]
 pub enum AnyPlace {
     Bloom(Bloom),
     Exact(Exact),

@@ -8,7 +8,7 @@ use key_codes::mix;
 const STEP: u64 = 0x9e37_79b9_7f4a_7c15;
 
 /// Draws of the generator SplitMix64 (Steele, Lea and Flood 2014), numbered from 0. Their state begins as a number.
-#[derive(Debug, Drop)]
+#[derive(Drop)]
 pub(crate) struct Draws {
     pub(crate) state: u64,
 }

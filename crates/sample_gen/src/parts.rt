@@ -2,7 +2,7 @@
 use rpt_base::Name;
 
 /// A script, and the tables that it names.
-#[derive(Debug, Drop)]
+#[derive(Drop)]
 pub struct Sample {
     /// The script, on one line without an end.
     pub script: Vec<u8>,

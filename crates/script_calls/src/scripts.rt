@@ -8,7 +8,7 @@ use crate::printing::put_printed;
 use crate::queries::{put_bound, put_fits};
 use crate::tokens::put_tokens;
 use crate::trees::put_tree;
-use binder::{bind, first_fault};
+use binder::{bind, first_violation};
 use case_text::{CaseError, put};
 use rpt_base::limits::MAX_SCRIPT_BYTES;
 use sql_lex::{LexError, Token, lex};
@@ -84,7 +84,7 @@ fn put_read(alloc: Global, word: &str, script: &Script, given: &mut String) -> R
     match word {
         "tree" => put_tree(script, given),
         "print" => return put_printed(alloc, &print(alloc, script)?, given),
-        "fault" => put_fault(script, given),
+        "violation" => put_violation(script, given),
         "bind" => put_bound(bind(alloc, script), given),
         "fits" => return put_fits(alloc, bind(alloc, script), given),
         _ => return Err(CaseError::Word),
@@ -92,8 +92,11 @@ fn put_read(alloc: Global, word: &str, script: &Script, given: &mut String) -> R
     Ok(())
 }
 
-fn put_fault(script: &Script, given: &mut String) {
-    if let Some(fault) = first_fault(script) {
-        put(given, format_args!("{:?} at {}\n", fault.kind, fault.at));
+fn put_violation(script: &Script, given: &mut String) {
+    if let Some(violation) = first_violation(script) {
+        put(
+            given,
+            format_args!("{:?} at {}\n", violation.kind, violation.at),
+        );
     }
 }

@@ -1,5 +1,5 @@
 pub mod ScopeFacts
-pub mod FaultFacts
+pub mod ViolationFacts
 pub mod TypeFacts
 pub mod CondFacts
 mod NamedFacts

@@ -3,26 +3,26 @@ use Rattle.std.proofs.Common.{◌≡◌, ◌∙◌, [], ap}
 use Rattle.std.specs.Prelude.{IfNone, Option, None, Some}
 use Rattle.std.specs.Option.{option_or}
 use Rattle.sql_grammar.specs.declared.tree.Script.{Script}
-use Rattle.script_rules.specs.declared.found.Fault.{Fault}
+use Rattle.script_rules.specs.declared.found.Violation.{Violation}
 use Rattle.script_rules.specs.Scope.{scope_of}
-use Rattle.script_rules.specs.Faults.{each_behind, first_by_phase, first_of, query_phases, refusal_of, source_faults, table_faults}
+use Rattle.script_rules.specs.Violations.{each_behind, first_by_phase, first_of, query_phases, refusal_of, source_violations, table_violations}
 
 module _ (script : Script) where
   -- the first refusals of the created tables and of the sources, and what comes behind them
-  abbrev pub of_tables : Option Fault
-  of_tables = first_of None (each_behind table_faults [] script.tables)
+  abbrev pub of_tables : Option Violation
+  of_tables = first_of None (each_behind table_violations [] script.tables)
 
-  abbrev pub of_sources : Option Fault
-  of_sources = first_of None (each_behind (source_faults script.tables) [] script.select.sources)
+  abbrev pub of_sources : Option Violation
+  of_sources = first_of None (each_behind (source_violations script.tables) [] script.select.sources)
 
-  abbrev pub of_query : Option Fault
+  abbrev pub of_query : Option Violation
   of_query = first_by_phase (query_phases (scope_of script) script)
 
-  pub refusal-tables : (f : Fault) → of_tables ≡ Some f → refusal_of script ≡ Some f
+  pub refusal-tables : (f : Violation) → of_tables ≡ Some f → refusal_of script ≡ Some f
   unfolding refusal_of
   refusal-tables f e = ap (λ o. option_or o (option_or of_sources of_query)) e
 
-  pub refusal-sources : (f : Fault) → of_tables ≡ None → of_sources ≡ Some f → refusal_of script ≡ Some f
+  pub refusal-sources : (f : Violation) → of_tables ≡ None → of_sources ≡ Some f → refusal_of script ≡ Some f
   unfolding refusal_of
   refusal-sources f none e = ap (λ o. option_or o (option_or of_sources of_query)) none ∙ ap (λ o. option_or o of_query) e
 

@@ -6,7 +6,7 @@ use Rattle.std.proofs.lemmas.Option.{none-some, same_Some}
 use Rattle.rpt_base.specs.Lists.{all_of}
 use Rattle.rpt_base.specs.declared.values.ColumnType.{ColumnType}
 use Rattle.rpt_base.specs.declared.values.Value.{Value}
-use Rattle.script_rules.specs.Faults.{differ, is_of_type, is_same_type}
+use Rattle.script_rules.specs.Violations.{differ, is_of_type, is_same_type}
 use Rattle.column_table.specs.Table.{type_of_value}
 
 -- none is missing

@@ -22,21 +22,21 @@ conditions_of script =
     flat_map (λ (s : Source). option_to_list s.on) script.select.sources ++ option_to_list script.select.filter
 
 -- a condition, and what is left where every And is taken apart
-pub record Taken : Type 0 where
+pub record Flattened : Type 0 where
   pub whole : Cond
   pub parts : List Cond
 
 -- a condition that is no And is its only part
-abbrev pub alone : Cond → Taken
+abbrev pub alone : Cond → Flattened
 alone c = record { whole = c; parts = c ∷ [] }
 
 -- a condition, given how its members are taken apart
-abbrev pub take_apart_over : Cond-F Taken → Taken
+abbrev pub take_apart_over : Cond-F Flattened → Flattened
 take_apart_over (And members) = record {
-  whole = cond.And (map (λ (m : Taken). m.whole) members);
-  parts = flat_map (λ (m : Taken). m.parts) members;
+  whole = cond.And (map (λ (m : Flattened). m.whole) members);
+  parts = flat_map (λ (m : Flattened). m.parts) members;
 }
-take_apart_over (Or members) = alone (cond.Or (map (λ (m : Taken). m.whole) members))
+take_apart_over (Or members) = alone (cond.Or (map (λ (m : Flattened). m.whole) members))
 take_apart_over (Not at inner) = alone (cond.Not at inner.whole)
 take_apart_over (Compare at op left right) = alone (cond.Compare at op left right)
 take_apart_over (Between at negated operand low high) = alone (cond.Between at negated operand low high)
@@ -45,7 +45,7 @@ take_apart_over (Like at negated operand pattern) = alone (cond.Like at negated 
 
 -- every And is taken apart
 unfoldable pub parts_of : Cond → List Cond
-parts_of c = (fold-Cond Taken take_apart_over c).parts
+parts_of c = (fold-Cond Flattened take_apart_over c).parts
 
 -- the conjuncts of a script
 abbrev pub conjuncts_of : Script → List Cond

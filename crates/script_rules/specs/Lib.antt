@@ -1,3 +1,3 @@
 pub mod Scope
 pub mod Conjuncts
-pub mod Faults
+pub mod Violations

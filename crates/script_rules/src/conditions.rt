@@ -3,11 +3,12 @@ ghost use Rattle.std.specs.Prelude.{◌≡◌, []};
 ghost use Rattle.std.specs.List.{flat_map};
 ghost use Rattle.std.specs.Option.{option_to_list};
 ghost use Rattle.script_rules.specs.Conjuncts.{conditions_of, parts_of};
-ghost use Rattle.script_rules.specs.Faults.{between_faults, compare_faults, cond_faults, conjunct_faults, faults_in};
-ghost use Rattle.script_rules.specs.Faults.{first_of, join_faults, like_faults, list_faults};
+ghost use Rattle.script_rules.specs.Violations.{between_violations, compare_violations, cond_violations};
+ghost use Rattle.script_rules.specs.Violations.{conjunct_violations, violations_in};
+ghost use Rattle.script_rules.specs.Violations.{first_of, join_violations, like_violations, list_violations};
 
 use crate::conjuncts::{is_equality, place_of};
-use crate::found::{Fault, merge, note_if};
+use crate::found::{Violation, merge, note_if};
 use crate::kinds::BindKind;
 use crate::named::is_of_two_relations;
 use crate::operands::{in_operand, in_types, in_value_types, type_of};
@@ -16,8 +17,8 @@ use rpt_base::{ColumnType, Value};
 use sql_text::{Cond, Expr, Script};
 
 // The first refusal of the conjuncts.
-pub(crate) fn in_conditions(scope: &Scope, script: &Script) -> Option<Fault>
-    ensures { result ≡ first_of None (faults_in scope.now (conditions_of script.now)) }
+pub(crate) fn in_conditions(scope: &Scope, script: &Script) -> Option<Violation>
+    ensures { result ≡ first_of None (violations_in scope.now (conditions_of script.now)) }
 {
     let mut found = None;
     for source in script.select.sources.as_slice() {
@@ -27,8 +28,8 @@ pub(crate) fn in_conditions(scope: &Scope, script: &Script) -> Option<Fault>
 }
 
 // The first of what was found and the refusals of the conjuncts of a condition that may be missing.
-fn in_some(scope: &Scope, cond: &Option<Cond>, found: Option<Fault>) -> Option<Fault>
-    ensures { result ≡ first_of found (faults_in scope.now (option_to_list cond.now)) }
+fn in_some(scope: &Scope, cond: &Option<Cond>, found: Option<Violation>) -> Option<Violation>
+    ensures { result ≡ first_of found (violations_in scope.now (option_to_list cond.now)) }
 {
     match cond {
         Some(cond) => in_parts(scope, cond, found),
@@ -38,8 +39,8 @@ fn in_some(scope: &Scope, cond: &Option<Cond>, found: Option<Fault>) -> Option<F
 
 // The same of a condition.
 #[cycle(in_parts)]
-fn in_parts(scope: &Scope, cond: &Cond, found: Option<Fault>) -> Option<Fault>
-    ensures { result ≡ first_of found (flat_map (conjunct_faults scope.now) (parts_of cond.now)) }
+fn in_parts(scope: &Scope, cond: &Cond, found: Option<Violation>) -> Option<Violation>
+    ensures { result ≡ first_of found (flat_map (conjunct_violations scope.now) (parts_of cond.now)) }
 {
     match cond {
         Cond::And(members) => in_all_parts(scope, members.as_slice(), found),
@@ -48,8 +49,8 @@ fn in_parts(scope: &Scope, cond: &Cond, found: Option<Fault>) -> Option<Fault>
 }
 
 #[cycle(in_parts)]
-fn in_all_parts(scope: &Scope, conds: &[Cond], found: Option<Fault>) -> Option<Fault>
-    ensures { result ≡ first_of found (faults_in scope.now conds.now) }
+fn in_all_parts(scope: &Scope, conds: &[Cond], found: Option<Violation>) -> Option<Violation>
+    ensures { result ≡ first_of found (violations_in scope.now conds.now) }
 {
     let mut found = found;
     for cond in conds {
@@ -59,19 +60,19 @@ fn in_all_parts(scope: &Scope, conds: &[Cond], found: Option<Fault>) -> Option<F
 }
 
 // The first of what was found and the refusals of a conjunct.
-fn in_conjunct(scope: &Scope, cond: &Cond, found: Option<Fault>) -> Option<Fault>
-    ensures { result ≡ first_of found (conjunct_faults scope.now cond.now) }
+fn in_conjunct(scope: &Scope, cond: &Cond, found: Option<Violation>) -> Option<Violation>
+    ensures { result ≡ first_of found (conjunct_violations scope.now cond.now) }
 {
     match in_cond(scope, cond, None) {
-        Some(fault) => merge(found, Some(fault)),
+        Some(violation) => merge(found, Some(violation)),
         None => in_join(scope, cond, found),
     }
 }
 
 // The first of what was found and the refusal of a conjunct that is otherwise in order.
-#[tactic(auto, unfolding(crate::specs::Faults::join_faults))]
-fn in_join(scope: &Scope, cond: &Cond, found: Option<Fault>) -> Option<Fault>
-    ensures { result ≡ first_of found (join_faults scope.now cond.now []) }
+#[tactic(auto, unfolding(crate::specs::Violations::join_violations))]
+fn in_join(scope: &Scope, cond: &Cond, found: Option<Violation>) -> Option<Violation>
+    ensures { result ≡ first_of found (join_violations scope.now cond.now []) }
 {
     let is_refused = is_of_two_relations(scope, cond) && !is_equality(cond);
     note_if(found, is_refused, place_of(cond), BindKind::NotEquiJoin)
@@ -79,8 +80,8 @@ fn in_join(scope: &Scope, cond: &Cond, found: Option<Fault>) -> Option<Fault>
 
 // The first of what was found and the refusals inside of a condition.
 #[cycle(in_cond)]
-fn in_cond(scope: &Scope, cond: &Cond, found: Option<Fault>) -> Option<Fault>
-    ensures { result ≡ first_of found (cond_faults scope.now cond.now) }
+fn in_cond(scope: &Scope, cond: &Cond, found: Option<Violation>) -> Option<Violation>
+    ensures { result ≡ first_of found (cond_violations scope.now cond.now) }
 {
     match cond {
         Cond::And(members) => in_conds(scope, members.as_slice(), found),
@@ -115,8 +116,8 @@ fn in_cond(scope: &Scope, cond: &Cond, found: Option<Fault>) -> Option<Fault>
 }
 
 #[cycle(in_cond)]
-fn in_conds(scope: &Scope, conds: &[Cond], found: Option<Fault>) -> Option<Fault>
-    ensures { result ≡ first_of found (flat_map (cond_faults scope.now) conds.now) }
+fn in_conds(scope: &Scope, conds: &[Cond], found: Option<Violation>) -> Option<Violation>
+    ensures { result ≡ first_of found (flat_map (cond_violations scope.now) conds.now) }
 {
     let mut found = found;
     for cond in conds {
@@ -130,9 +131,9 @@ fn in_compare(
     at: u32,
     left: &Expr,
     right: &Expr,
-    found: Option<Fault>,
-) -> Option<Fault>
-    ensures { result ≡ first_of found (compare_faults scope.now at left.now right.now) }
+    found: Option<Violation>,
+) -> Option<Violation>
+    ensures { result ≡ first_of found (compare_violations scope.now at left.now right.now) }
 {
     let found = in_operand(scope, left, found);
     let found = in_operand(scope, right, found);
@@ -145,9 +146,9 @@ fn in_between(
     operand: &Expr,
     low: &Expr,
     high: &Expr,
-    found: Option<Fault>,
-) -> Option<Fault>
-    ensures { result ≡ first_of found (between_faults scope.now at operand.now low.now high.now) }
+    found: Option<Violation>,
+) -> Option<Violation>
+    ensures { result ≡ first_of found (between_violations scope.now at operand.now low.now high.now) }
 {
     let found = in_operand(scope, operand, found);
     let found = in_operand(scope, low, found);
@@ -165,16 +166,16 @@ fn in_list(
     at: u32,
     operand: &Expr,
     values: &[Value],
-    found: Option<Fault>,
-) -> Option<Fault>
-    ensures { result ≡ first_of found (list_faults scope.now at operand.now values.now) }
+    found: Option<Violation>,
+) -> Option<Violation>
+    ensures { result ≡ first_of found (list_violations scope.now at operand.now values.now) }
 {
     let found = in_operand(scope, operand, found);
     in_value_types(scope, at, operand, values, found)
 }
 
-fn in_like(scope: &Scope, at: u32, operand: &Expr, found: Option<Fault>) -> Option<Fault>
-    ensures { result ≡ first_of found (like_faults scope.now at operand.now) }
+fn in_like(scope: &Scope, at: u32, operand: &Expr, found: Option<Violation>) -> Option<Violation>
+    ensures { result ≡ first_of found (like_violations scope.now at operand.now) }
 {
     let found = in_operand(scope, operand, found);
     in_types(

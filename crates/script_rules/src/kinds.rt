@@ -1,6 +1,6 @@
 // Why a script is refused.
 ghost use Rattle.std.specs.Prelude.{◌≡◌};
-ghost use Rattle.script_rules.specs.Faults.{rank_of};
+ghost use Rattle.script_rules.specs.Violations.{rank_of};
 
 /// Why a script is refused. Of two at one place the one that is listed first comes first.
 #[derive(Clone, Copy, Debug, PartialEq, Eq)]

@@ -16,10 +16,10 @@ mod sources;
 mod tables;
 
 pub use conjuncts::is_equality;
-pub use found::Fault;
+pub use found::Violation;
 pub use kinds::BindKind;
 pub use named::first_relation;
 pub use operands::column_of;
-pub use refusal::first_fault;
+pub use refusal::first_violation;
 pub use scope::Scope;
 pub use sources::{columns_of, is_same, name_of};

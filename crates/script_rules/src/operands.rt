@@ -4,11 +4,11 @@ ghost use Rattle.std.specs.List.{flat_map, list_all};
 ghost use Rattle.std.specs.Option.{is_some};
 ghost use Rattle.rpt_base.specs.Lists.{all_of};
 ghost use Rattle.script_rules.specs.Conjuncts.{column_of};
-ghost use Rattle.script_rules.specs.Faults.{differ, first_of, is_of_type, is_same_type, item_faults};
-ghost use Rattle.script_rules.specs.Faults.{operand_faults, reference_faults, type_faults, type_of, value_types};
+ghost use Rattle.script_rules.specs.Violations.{differ, first_of, is_of_type, is_same_type, item_violations};
+ghost use Rattle.script_rules.specs.Violations.{operand_violations, reference_violations, type_violations, type_of, value_types};
 ghost use Rattle.column_table.specs.Table.{type_of_value};
 
-use crate::found::{Fault, note, note_if};
+use crate::found::{Violation, note, note_if};
 use crate::kinds::BindKind;
 use crate::scope::Scope;
 use column_classes::ColumnRef;
@@ -16,20 +16,24 @@ use rpt_base::{ColumnType, Value};
 use sql_text::{ColumnName, Expr, Item, Items};
 
 // The first of what was found and the refusal of a reference.
-#[tactic(auto, unfolding(crate::specs::Faults::first_of, crate::specs::Faults::reference_faults))]
-pub(crate) fn in_reference(scope: &Scope, name: &ColumnName, found: Option<Fault>) -> Option<Fault>
-    ensures { result ≡ first_of found (reference_faults scope.now name.now) }
+#[tactic(auto, unfolding(crate::specs::Violations::first_of, crate::specs::Violations::reference_violations))]
+pub(crate) fn in_reference(
+    scope: &Scope,
+    name: &ColumnName,
+    found: Option<Violation>,
+) -> Option<Violation>
+    ensures { result ≡ first_of found (reference_violations scope.now name.now) }
 {
     match scope.resolve(name) {
         Ok(_) => found,
-        Err(kind) => note(found, Fault { at: name.at, kind }),
+        Err(kind) => note(found, Violation { at: name.at, kind }),
     }
 }
 
 // The first refusal of what is selected.
-#[tactic(auto, unfolding(crate::specs::Faults::first_of, crate::specs::Faults::item_faults))]
-pub(crate) fn in_items(scope: &Scope, items: &Items) -> Option<Fault>
-    ensures { result ≡ first_of None (item_faults scope.now items.now) }
+#[tactic(auto, unfolding(crate::specs::Violations::first_of, crate::specs::Violations::item_violations))]
+pub(crate) fn in_items(scope: &Scope, items: &Items) -> Option<Violation>
+    ensures { result ≡ first_of None (item_violations scope.now items.now) }
 {
     match items {
         Items::Star => None,
@@ -37,8 +41,8 @@ pub(crate) fn in_items(scope: &Scope, items: &Items) -> Option<Fault>
     }
 }
 
-fn in_list(scope: &Scope, items: &[Item]) -> Option<Fault>
-    ensures { result ≡ first_of None (flat_map (λ i. reference_faults scope.now i.column) items.now) }
+fn in_list(scope: &Scope, items: &[Item]) -> Option<Violation>
+    ensures { result ≡ first_of None (flat_map (λ i. reference_violations scope.now i.column) items.now) }
 {
     let mut found = None;
     for item in items {
@@ -48,9 +52,13 @@ fn in_list(scope: &Scope, items: &[Item]) -> Option<Fault>
 }
 
 // The first of what was found and the refusal of an operand.
-#[tactic(auto, unfolding(crate::specs::Faults::first_of, crate::specs::Faults::operand_faults))]
-pub(crate) fn in_operand(scope: &Scope, operand: &Expr, found: Option<Fault>) -> Option<Fault>
-    ensures { result ≡ first_of found (operand_faults scope.now operand.now) }
+#[tactic(auto, unfolding(crate::specs::Violations::first_of, crate::specs::Violations::operand_violations))]
+pub(crate) fn in_operand(
+    scope: &Scope,
+    operand: &Expr,
+    found: Option<Violation>,
+) -> Option<Violation>
+    ensures { result ≡ first_of found (operand_violations scope.now operand.now) }
 {
     match operand {
         Expr::Column(name) => in_reference(scope, name, found),
@@ -73,7 +81,7 @@ pub fn column_of(scope: &Scope, operand: &Expr) -> Option<ColumnRef>
 }
 
 // The type of an operand.
-#[tactic(auto, unfolding(crate::specs::Faults::type_of))]
+#[tactic(auto, unfolding(crate::specs::Violations::type_of))]
 pub(crate) fn type_of(scope: &Scope, operand: &Expr) -> Option<ColumnType>
     ensures { result ≡ type_of scope.now operand.now }
 {
@@ -105,9 +113,13 @@ fn is_same_type(left: ColumnType, right: ColumnType) -> bool
 }
 
 // The first of what was found and the refusal of operands that are of more than one type.
-#[tactic(auto, unfolding(crate::specs::Faults::type_faults))]
-pub(crate) fn in_types(at: u32, types: &[Option<ColumnType>], found: Option<Fault>) -> Option<Fault>
-    ensures { result ≡ first_of found (type_faults at types.now) }
+#[tactic(auto, unfolding(crate::specs::Violations::type_violations))]
+pub(crate) fn in_types(
+    at: u32,
+    types: &[Option<ColumnType>],
+    found: Option<Violation>,
+) -> Option<Violation>
+    ensures { result ≡ first_of found (type_violations at types.now) }
 {
     note_if(found, differ(types), at, BindKind::TypeMismatch)
 }
@@ -155,15 +167,15 @@ fn is_of_type(kind: ColumnType, other: Option<ColumnType>) -> bool
 }
 
 // The first of what was found and the refusal of an operand and values that are of more than one type.
-#[tactic(auto, unfolding(crate::specs::Faults::type_faults))]
+#[tactic(auto, unfolding(crate::specs::Violations::type_violations))]
 pub(crate) fn in_value_types(
     scope: &Scope,
     at: u32,
     operand: &Expr,
     values: &[Value],
-    found: Option<Fault>,
-) -> Option<Fault>
-    ensures { result ≡ first_of found (type_faults at (type_of scope.now operand.now ∷ value_types values.now)) }
+    found: Option<Violation>,
+) -> Option<Violation>
+    ensures { result ≡ first_of found (type_violations at (type_of scope.now operand.now ∷ value_types values.now)) }
 {
     let do_differ = match type_of(scope, operand) {
         Some(first) => has_other_type(values, first),

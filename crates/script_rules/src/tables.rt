@@ -1,9 +1,9 @@
 // What is wrong with the created tables and the sources.
 ghost use Rattle.std.specs.Prelude.{◌≡◌, ◌==◌, ◌||◌, []};
-ghost use Rattle.script_rules.specs.Faults.{column_faults, each_behind, first_of, source_faults, table_faults};
-ghost use Rattle.script_rules.specs.Faults.{has_column, has_relation, has_table, is_file_name};
+ghost use Rattle.script_rules.specs.Violations.{column_violations, each_behind, first_of, source_violations, table_violations};
+ghost use Rattle.script_rules.specs.Violations.{has_column, has_relation, has_table, is_file_name};
 
-use crate::found::{Fault, note_if};
+use crate::found::{Violation, note_if};
 use crate::kinds::BindKind;
 use crate::sources::{is_same, name_of, name_place};
 use rpt_base::Name;
@@ -11,8 +11,8 @@ use rpt_base::limits::{MAX_COLUMNS, MAX_RELATIONS};
 use sql_text::{ColumnItem, CreateTable, Source};
 
 // The first refusal of the created tables.
-pub(crate) fn in_tables(tables: &[CreateTable]) -> Option<Fault>
-    ensures { result ≡ first_of None (each_behind table_faults [] tables.now) }
+pub(crate) fn in_tables(tables: &[CreateTable]) -> Option<Violation>
+    ensures { result ≡ first_of None (each_behind table_violations [] tables.now) }
 {
     let mut found = None;
     for (number, table) in tables.iter().enumerate() {
@@ -22,8 +22,12 @@ pub(crate) fn in_tables(tables: &[CreateTable]) -> Option<Fault>
 }
 
 // The first of what was found and the refusals of a table behind these.
-fn in_table(before: &[CreateTable], table: &CreateTable, found: Option<Fault>) -> Option<Fault>
-    ensures { result ≡ first_of found (table_faults before.now table.now) }
+fn in_table(
+    before: &[CreateTable],
+    table: &CreateTable,
+    found: Option<Violation>,
+) -> Option<Violation>
+    ensures { result ≡ first_of found (table_violations before.now table.now) }
 {
     let name = &table.name;
     let found = note_if(found, !is_file_name(name), table.at, BindKind::BadTableName);
@@ -36,8 +40,8 @@ fn in_table(before: &[CreateTable], table: &CreateTable, found: Option<Fault>) -
     in_columns(table.columns.as_slice(), found)
 }
 
-fn in_columns(columns: &[ColumnItem], found: Option<Fault>) -> Option<Fault>
-    ensures { result ≡ first_of found (each_behind column_faults [] columns.now) }
+fn in_columns(columns: &[ColumnItem], found: Option<Violation>) -> Option<Violation>
+    ensures { result ≡ first_of found (each_behind column_violations [] columns.now) }
 {
     let mut found = found;
     for (number, column) in columns.iter().enumerate() {
@@ -46,8 +50,12 @@ fn in_columns(columns: &[ColumnItem], found: Option<Fault>) -> Option<Fault>
     found
 }
 
-fn in_column(before: &[ColumnItem], column: &ColumnItem, found: Option<Fault>) -> Option<Fault>
-    ensures { result ≡ first_of found (column_faults before.now column.now) }
+fn in_column(
+    before: &[ColumnItem],
+    column: &ColumnItem,
+    found: Option<Violation>,
+) -> Option<Violation>
+    ensures { result ≡ first_of found (column_violations before.now column.now) }
 {
     let is_past = before.len() == MAX_COLUMNS as usize;
     let found = note_if(found, is_past, column.at, BindKind::TooManyColumns);
@@ -56,8 +64,8 @@ fn in_column(before: &[ColumnItem], column: &ColumnItem, found: Option<Fault>) -
 }
 
 // The first refusal of the sources.
-pub(crate) fn in_sources(tables: &[CreateTable], sources: &[Source]) -> Option<Fault>
-    ensures { result ≡ first_of None (each_behind (source_faults tables.now) [] sources.now) }
+pub(crate) fn in_sources(tables: &[CreateTable], sources: &[Source]) -> Option<Violation>
+    ensures { result ≡ first_of None (each_behind (source_violations tables.now) [] sources.now) }
 {
     let mut found = None;
     for (number, source) in sources.iter().enumerate() {
@@ -70,9 +78,9 @@ fn in_source(
     tables: &[CreateTable],
     before: &[Source],
     source: &Source,
-    found: Option<Fault>,
-) -> Option<Fault>
-    ensures { result ≡ first_of found (source_faults tables.now before.now source.now) }
+    found: Option<Violation>,
+) -> Option<Violation>
+    ensures { result ≡ first_of found (source_violations tables.now before.now source.now) }
 {
     let is_unknown = !has_table(tables, &source.table);
     let found = note_if(found, is_unknown, source.at, BindKind::UnknownTable);

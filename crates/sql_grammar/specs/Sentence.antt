@@ -47,12 +47,8 @@ pub record IsTooDeep (levels : ℕ) (tokens : List Token) (at : ℕ) : Type 0 wh
   pub least : (f : Front (line script)) → front_text f rest ≡ tokens → levels < front_depth f
   pub place : at ≡ opener.start
 
--- a syntax tree, or why there is none
-abbrev pub Answer : Type 0
-Answer = Result Script ParseError
-
 -- what the tokens, of a script with this end, are: a sentence with its tree, or refused at a place
-abbrev pub IsReading : ℕ → List Token → ℕ → Answer → Type 0
+abbrev pub IsReading : ℕ → List Token → ℕ → Result Script ParseError → Type 0
 IsReading levels tokens end (Ok tree) = IsSentence levels tokens tree
 IsReading levels tokens end (Err (Syntax at)) = IsSyntaxError levels tokens end at
 IsReading levels tokens end (Err (TooDeep at)) = IsTooDeep levels tokens at
@@ -60,14 +56,14 @@ IsReading levels tokens end (Err Memory) = ⊥
 
 -- the tokens have a reading
 abbrev pub HasReading : ℕ → List Token → ℕ → Type 0
-HasReading levels tokens end = (answer : Answer) × IsReading levels tokens end answer
+HasReading levels tokens end = (found : Result Script ParseError) × IsReading levels tokens end found
 
 -- and no second one
 abbrev pub HasOneReading : ℕ → List Token → ℕ → Type 0
 HasOneReading levels tokens end =
-    (a b : Answer) → IsReading levels tokens end a → IsReading levels tokens end b → a ≡ b
+    (a b : Result Script ParseError) → IsReading levels tokens end a → IsReading levels tokens end b → a ≡ b
 
 -- the reading that the tokens have is this, unless memory fails
-abbrev pub IsOnlyReading : ℕ → List Token → ℕ → Answer → Type 0
+abbrev pub IsOnlyReading : ℕ → List Token → ℕ → Result Script ParseError → Type 0
 IsOnlyReading levels tokens end result =
-    (said : Answer) → IsReading levels tokens end said → (result ≡ Err Memory) ⊎ (result ≡ said)
+    (said : Result Script ParseError) → IsReading levels tokens end said → (result ≡ Err Memory) ⊎ (result ≡ said)

@@ -112,23 +112,19 @@ item_at bytes =
     if starts_with nat_eq bytes (45 ∷ 45 ∷ []) then Some (None, 2 + length (before 10 (drop 2 bytes)))
     else as_item (token_at bytes))
 
--- the tokens of bytes, or why they have none
-abbrev pub Answer : Type 0
-Answer = Result (List Token) LexError
-
 -- these tokens, and then others
-abbrev pub joined_tokens : List Token → Answer → Answer
+abbrev pub joined_tokens : List Token → Result (List Token) LexError → Result (List Token) LexError
 joined_tokens front (Err e) = Err e
 joined_tokens front (Ok others) = Ok (front ++ others)
 
 -- what an item makes, or that none stands at this offset
-abbrev pub item_or_bad : ℕ → (Option TokenKind × ℕ → Answer)
-    → Option (Option TokenKind × ℕ) → Answer
+abbrev pub item_or_bad : ℕ → (Option TokenKind × ℕ → Result (List Token) LexError)
+    → Option (Option TokenKind × ℕ) → Result (List Token) LexError
 item_or_bad offset made None = Err (error.At offset)
 item_or_bad offset made (Some item) = made item
 
 -- the tokens from an offset on, behind the bytes that are skipped, which belong to the item before
-abbrev pub tokens_behind : ℕ → ℕ → List ℕ → Answer
+abbrev pub tokens_behind : ℕ → ℕ → List ℕ → Result (List Token) LexError
 tokens_behind skipped offset [] = Ok []
 tokens_behind (suc skipped) offset (b ∷ bytes) = tokens_behind skipped (offset + 1) bytes
 tokens_behind zero offset (b ∷ bytes) =
@@ -137,11 +133,11 @@ tokens_behind zero offset (b ∷ bytes) =
     (item_at (b ∷ bytes))
 
 -- the bytes' tokens, or the offset at which no item stands
-unfoldable pub lexed : List ℕ → Answer
+unfoldable pub lexed : List ℕ → Result (List Token) LexError
 lexed bytes = tokens_behind 0 (first_offset bytes) (without_order_mark bytes)
 
 -- the answer, seen so, is this one; or memory ran out
-abbrev pub Gives : {X : Type 0} → (X → List Token) → Answer → Result X LexError → Type 0
+abbrev pub Gives : {X : Type 0} → (X → List Token) → Result (List Token) LexError → Result X LexError → Type 0
 Gives seen said result =
     MatchResult result (λ x. said ≡ Ok (seen x)) (λ e. (e ≡ error.Memory) ⊎ (said ≡ Err e))
 

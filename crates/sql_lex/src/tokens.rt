@@ -20,7 +20,7 @@ pub enum Mark {
 }
 
 /// What a token is.
-#[derive(Debug, Drop)]
+#[derive(Drop)]
 pub enum TokenKind {
     /// A keyword or a name, in lower case: an ASCII letter or `_`, then letters, digits and `_`, at most 63 bytes.
     Word(Str),
@@ -34,7 +34,7 @@ pub enum TokenKind {
 }
 
 /// A token, and the bytes of the script from `start` up to `end` that write it, as offsets from 0.
-#[derive(Debug, Drop)]
+#[derive(Drop)]
 pub struct Token {
     pub kind: TokenKind,
     pub start: u32,

@@ -15,7 +15,7 @@ use sql_lex::Mark;
 use sql_text::{Cond, Expr};
 
 /// What a condition stands in.
-#[derive(Clone, Copy, Debug, PartialEq, Eq)]
+#[derive(Clone, Copy, PartialEq, Eq)]
 pub enum Room {
     /// Nothing.
     Whole,

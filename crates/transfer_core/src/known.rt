@@ -10,7 +10,7 @@ use std::alloc::Global;
 
 /// The morsel that an actor holds, with its pipe; the item and the port of each put for it; the morsels that the actor has finished, with
 /// their pipes; and for each pipe whether it was seen full.
-#[derive(Debug, Drop)]
+#[derive(Drop)]
 pub struct Known {
     pub(crate) held: Option<(u32, u32)>,
     pub(crate) puts: Vec<(u32, u32)>,

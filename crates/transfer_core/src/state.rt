@@ -14,7 +14,7 @@ use std::alloc::Global;
 
 /// For each pipe the number of its morsels that were drawn and of those that are finished, the words of each region, and what each actor
 /// knows.
-#[derive(Debug, Drop)]
+#[derive(Drop)]
 pub struct State {
     pub(crate) next: Vec<u32>,
     pub(crate) done: Vec<u32>,

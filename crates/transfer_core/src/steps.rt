@@ -1,7 +1,7 @@
 // Steps of actors.
 
 /// One step of an actor. Actors, pipes, items, ports, regions and words are numbered from 0; a port is one of those by which the pipe writes.
-#[derive(Clone, Copy, Debug, PartialEq, Eq)]
+#[derive(Clone, Copy)]
 pub enum Step {
     /// The actor draws the pipe's next morsel, if one is left. It has to hold none, and to have seen full each pipe that this one reads from.
     Draw {

@@ -8,7 +8,7 @@ use std::marker::Model;
 use transfer_core::{Pipe, Plan, Port, Sealed};
 
 /// The sealed regions of a plan, and the plan's pipes. Contracts see both as lists.
-#[derive(Debug, Drop)]
+#[derive(Drop)]
 pub struct TransferRun {
     sealed: Sealed,
     pipes: Listed<Pipe>,
@@ -23,7 +23,7 @@ impl Model for TransferRun {
 }
 
 // A region, and how many items the pipe has that writes it.
-#[derive(Clone, Copy, Debug)]
+#[derive(Clone, Copy)]
 struct Written {
     region: u32,
     items: u32,

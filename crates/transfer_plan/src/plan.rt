@@ -15,7 +15,7 @@ use transfer_core::Plan;
 
 /// An edge of the tree: the placements of its child's and of its parent's items by the variables that both have, and how many
 /// words the forward and the backward key region of the edge have.
-#[derive(Debug, Drop)]
+#[derive(Drop)]
 pub struct Edge<P> {
     pub child: P,
     pub parent: P,

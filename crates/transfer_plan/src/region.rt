@@ -1,7 +1,7 @@
 // What the regions of a plan are for.
 
 /// What a region of a tree's plan is for, with the relation that it is about.
-#[derive(Clone, Copy, Debug, PartialEq, Eq)]
+#[derive(Clone, Copy)]
 pub enum Region {
     /// The items that pass its forward pipe.
     Forward(u32),

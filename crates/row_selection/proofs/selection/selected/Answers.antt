@@ -30,7 +30,7 @@ linked-requires-clause-rows c =
 
 pub linked-requires-clause-pairs : goal.linked-requires-clause-pairs
 linked-requires-clause-pairs c =
-    linked-columns c.args.bound.now c.args.relation c.table_at-table.result.now c.local-pairs.result.now c.var_sets.ensures.known c.requires.relation c.local-pairs.ensures c.table_at-table.ensures.kinds
+    linked-columns c.args.bound.now c.args.relation c.table_at-table.result.now c.local-pairs.result.now c.var_sets-sets.ensures.known c.requires.relation c.local-pairs.ensures c.table_at-table.ensures.kinds
 
 pub returns-clause-rows : goal.returns-clause-rows
 returns-clause-rows c =

@@ -1,9 +1,9 @@
-use Rattle.script_rules.specs.Faults.{list_faults, operand_faults}
+use Rattle.script_rules.specs.Violations.{list_violations, operand_violations}
 use Rattle.script_rules.proofs.ConjunctFacts.{one-noted}
 use Rattle.script_rules.proofs.conditions.in_list.Goals as goal
 
 pub returns : goal.returns
-unfolding list_faults
+unfolding list_violations
 returns c =
-    let of = operand_faults c.args.scope.now in
+    let of = operand_violations c.args.scope.now in
     rw (c.in_value_types.ensures, c.in_operand-found.ensures) (one-noted (of c.args.operand.now) _ c.args.found)

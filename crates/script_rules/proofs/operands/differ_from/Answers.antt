@@ -1,6 +1,6 @@
 use Rattle.std.proofs.Common.{◌∙◌, ◌&&◌, not, ap, sym}
 use Rattle.std.specs.List.{list_all}
-use Rattle.script_rules.specs.Faults.{is_of_type}
+use Rattle.script_rules.specs.Violations.{is_of_type}
 use Rattle.script_rules.proofs.TypeFacts.{differ-types}
 use Rattle.script_rules.proofs.operands.differ_from.Goals as goal
 

@@ -1,16 +1,16 @@
 use Rattle.std.proofs.Common.{◌∙◌, ◌+◌, take, ap, sym, subst, arith}
 use Rattle.std.specs.Prelude.{Option, None}
-use Rattle.script_rules.specs.declared.found.Fault.{Fault}
-use Rattle.script_rules.specs.Faults.{table_faults, first_of}
-use Rattle.script_rules.proofs.FaultFacts.{IsNotedBehind, noted_behind-more, noted_behind-end}
+use Rattle.script_rules.specs.declared.found.Violation.{Violation}
+use Rattle.script_rules.specs.Violations.{table_violations, first_of}
+use Rattle.script_rules.proofs.ViolationFacts.{IsNotedBehind, noted_behind-more, noted_behind-end}
 use Rattle.script_rules.proofs.tables.in_tables.Goals as goal
 
 pub loop-number-preserved : goal.loop-number-preserved
 loop-number-preserved c =
     let x = c.index-tables-number.result in
-    let e = c.in_table-found.ensures ∙ ap (λ member. first_of c.loop-number.found (table_faults (take c.loop-number.number c.args.tables.now) member)) c.index-tables-number.is in
-    let P : Option Fault → Type 0 = λ found. IsNotedBehind table_faults c.args.tables.now None found (c.loop-number.number + 1) in
-    subst P (sym e) (noted_behind-more table_faults c.args.tables.now None c.loop-number.found c.loop-number.number x (omega arith) c.loop-number.invariant)
+    let e = c.in_table-found.ensures ∙ ap (λ member. first_of c.loop-number.found (table_violations (take c.loop-number.number c.args.tables.now) member)) c.index-tables-number.is in
+    let P : Option Violation → Type 0 = λ found. IsNotedBehind table_violations c.args.tables.now None found (c.loop-number.number + 1) in
+    subst P (sym e) (noted_behind-more table_violations c.args.tables.now None c.loop-number.found c.loop-number.number x (omega arith) c.loop-number.invariant)
 
 pub returns : goal.returns
-returns c = noted_behind-end table_faults c.args.tables.now None c.loop-number.found c.loop-number.number (omega arith) c.loop-number.invariant
+returns c = noted_behind-end table_violations c.args.tables.now None c.loop-number.found c.loop-number.number (omega arith) c.loop-number.invariant
