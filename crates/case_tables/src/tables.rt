@@ -2,7 +2,7 @@
 ghost use Rattle.std.specs.Prelude.{◌<◌, ◌≤◌, IfOk, length};
 
 use crate::values::put_cell;
-use case_text::{CaseError, put};
+use case_text::{CaseError, push_read, put};
 use column_table::{ColumnDecl, Decl, Table};
 use csv_load::{LoadError, load};
 use rpt_base::limits::MAX_COLUMNS;
@@ -28,12 +28,18 @@ pub fn loaded(
 fn columns_of(alloc: Global, text: &str) -> Result<Vec<ColumnDecl>, CaseError> {
     let mut columns = Vec::new(alloc);
     for column in text.split(',') {
-        let (name, kind) = column.trim().split_once(' ').ok_or(CaseError::Word)?;
-        let kind = kind_of(kind)?;
-        let name = name_of(alloc, name)?;
-        columns.push(ColumnDecl { name, kind })?;
+        push_read(&mut columns, column_of(alloc, column.trim()))?;
     }
     Ok(columns)
+}
+
+fn column_of(alloc: Global, text: &str) -> Result<ColumnDecl, CaseError> {
+    let Some((name, kind)) = text.split_once(' ') else {
+        return Err(CaseError::Word);
+    };
+    let kind = kind_of(kind)?;
+    let name = name_of(alloc, name)?;
+    Ok(ColumnDecl { name, kind })
 }
 
 fn name_of(alloc: Global, text: &str) -> Result<Name, CaseError> {

@@ -1,5 +1,5 @@
 // Values, as they are written and printed.
-use case_text::{CaseError, put, put_text};
+use case_text::{CaseError, push_read, put, put_text};
 use rpt_base::{Cell, Str, Value};
 use std::alloc::Global;
 use std::str;
@@ -33,7 +33,7 @@ pub fn int_of(text: &str) -> Result<i64, CaseError> {
 pub fn values_of(alloc: Global, text: &str) -> Result<Vec<Value>, CaseError> {
     let mut values = Vec::new(alloc);
     for value in text.split_whitespace() {
-        values.push(value_of(alloc, value)?)?;
+        push_read(&mut values, value_of(alloc, value))?;
     }
     Ok(values)
 }

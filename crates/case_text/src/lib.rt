@@ -20,5 +20,5 @@ pub use counts::Counts;
 pub use errors::CaseError;
 pub use escapes::put_text;
 pub use given::put;
-pub use lines::{Line, line_of, number_of, numbers_of};
+pub use lines::{Line, line_of, number_of, numbers_of, pair_of, push_read, set_read};
 pub use texts::put_line;

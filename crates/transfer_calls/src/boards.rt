@@ -6,7 +6,7 @@ ghost use Rattle.transfer_core.specs.Plans.{IsValid, shape_of};
 ghost use Rattle.transfer_plan.specs.Kept.{sealed_run};
 
 use crate::plans::plan_of;
-use case_text::{Case, CaseError, number_of, put};
+use case_text::{Case, CaseError, pair_of, put};
 use filter_board::Board;
 use rpt_base::limits::are_workers;
 use rpt_engine::AnyPlace;
@@ -24,18 +24,32 @@ pub fn put_board<R: Threads + Sync>(
     given: &mut String,
 ) -> Result<(), CaseError> {
     let mut head = case.head.split_whitespace();
-    let workers = number_of(head.next())?;
-    let times = number_of(head.next())?;
+    let (workers, times) = pair_of(head.next(), head.next())?;
     let mut first = String::new(alloc);
     for time in 0..times {
-        let text = sealed_text(rt, alloc, plan_of(alloc, &case.entries)?, workers)?;
-        if time == 0 {
-            first = text;
-        } else if text.as_bytes() != first.as_bytes() {
-            put(given, format_args!("run {time} differs\n"));
-        }
+        let plan = plan_of(alloc, &case.entries)?;
+        put_run(rt, alloc, plan, workers, time, &mut first, given)?;
     }
     put(given, first.as_str());
+    Ok(())
+}
+
+// Keeps what the first run seals, and puts that a later one seals something else.
+fn put_run<R: Threads + Sync>(
+    rt: &R,
+    alloc: Global,
+    plan: Plan<AnyPlace>,
+    workers: u32,
+    time: u32,
+    first: &mut String,
+    given: &mut String,
+) -> Result<(), CaseError> {
+    let text = sealed_text(rt, alloc, plan, workers)?;
+    if time == 0 {
+        *first = text;
+    } else if text.as_bytes() != first.as_bytes() {
+        put(given, format_args!("run {time} differs\n"));
+    }
     Ok(())
 }
 

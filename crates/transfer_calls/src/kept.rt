@@ -1,11 +1,13 @@
 // The plan of a tree, and the items that its filters keep.
-ghost use Rattle.std.specs.Prelude.{◌≤◌};
-ghost use Rattle.transfer_plan.specs.Kept.{CanTell, item_count};
+ghost use Rattle.std.specs.Prelude.{◌≡◌, ◌≤◌, EachIndex, length, slice_index};
+ghost use Rattle.rpt_engine.specs.Places.{places_of};
+ghost use Rattle.transfer_core.specs.Plans.{IsValid, shape_of};
+ghost use Rattle.transfer_plan.specs.Kept.{CanTell, item_count, sealed_run};
 
 use crate::boards::run_of;
 use crate::parts::planned;
-use crate::trees::Parts;
-use case_text::{CaseError, put};
+use crate::trees::{Parts, parts_of};
+use case_text::{Case, CaseError, put};
 use rpt_base::limits::are_workers;
 use rpt_engine::AnyPlace;
 use std::alloc::Global;
@@ -13,15 +15,15 @@ use std::thread::Threads;
 use transfer_core::{Plan, Port};
 use transfer_pass::TransferRun;
 
-/// Puts the words of a plan's regions, and each pipe in a line.
-pub fn put_tree(alloc: Global, parts: Parts, given: &mut String) -> Result<(), CaseError> {
+/// Puts the words of the regions of a case's plan, and each pipe in a line.
+pub fn put_tree(alloc: Global, case: &Case, given: &mut String) -> Result<(), CaseError> {
     let Parts {
         tree,
         items,
         edges,
         morsel,
         workers: _,
-    } = parts;
+    } = parts_of(alloc, case)?;
     put_plan(planned(alloc, &tree, &items, edges, morsel)?, given);
     Ok(())
 }
@@ -49,11 +51,11 @@ fn put_ports(ports: &[Port], given: &mut String) {
     }
 }
 
-/// Puts the items of each relation that a run of the plan keeps.
+/// Puts the items of each relation that a run of a case's plan keeps.
 pub fn put_kept<R: Threads + Sync>(
     rt: &R,
     alloc: Global,
-    parts: Parts,
+    case: &Case,
     given: &mut String,
 ) -> Result<(), CaseError> {
     let Parts {
@@ -62,11 +64,28 @@ pub fn put_kept<R: Threads + Sync>(
         edges,
         morsel,
         workers,
-    } = parts;
+    } = parts_of(alloc, case)?;
+    let plan = planned(alloc, &tree, &items, edges, morsel)?;
+    put_run(rt, alloc, plan, &items, workers, given)
+}
+
+// The plan goes with the call and is dropped in one: held where a function branches, it makes the proof much larger.
+fn put_run<R: Threads + Sync>(
+    rt: &R,
+    alloc: Global,
+    plan: Plan<AnyPlace>,
+    items: &[u32],
+    workers: u32,
+    given: &mut String,
+) -> Result<(), CaseError>
+    requires valid { IsValid (shape_of places_of plan) }
+    requires tells { EachIndex items.now (CanTell (sealed_run (shape_of places_of plan))) }
+    requires items { EachIndex items.now (λ r. item_count (sealed_run (shape_of places_of plan)) r ≡ slice_index items.now r) }
+    requires few { length items.now ≤ 64 }
+{
     if !are_workers(workers) {
         return Err(CaseError::Range);
     }
-    let plan = planned(alloc, &tree, &items, edges, morsel)?;
     let run = run_of(rt, alloc, plan, workers)?;
     for relation in 0..items.len() {
         put_relation(&run, relation as u32, items[relation], given);

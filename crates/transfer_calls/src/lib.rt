@@ -11,7 +11,7 @@ mod plans;
 mod steps;
 mod trees;
 
-use case_text::{Case, CaseError, number_of};
+use case_text::{Case, CaseError};
 use std::alloc::Global;
 use std::thread::Threads;
 
@@ -22,19 +22,16 @@ pub fn put_given<R: Threads + Sync>(
     case: &Case,
     given: &mut String,
 ) -> Result<(), CaseError> {
+    let head = case.head.as_str();
     let entries = case.entries.as_slice();
     match case.word.as_str() {
-        "plan" => steps::put_plan(alloc, &plans::plan_of(alloc, entries)?, given),
-        "steps" => {
-            let plan = plans::plan_of(alloc, entries)?;
-            let actors = number_of(Some(case.head.as_str()))?;
-            steps::put_steps(alloc, &plan, actors, entries, given)
-        }
-        "tree" => kept::put_tree(alloc, trees::parts_of(alloc, case)?, given),
-        "kept" => kept::put_kept(rt, alloc, trees::parts_of(alloc, case)?, given),
+        "plan" => steps::put_plan(alloc, entries, given),
+        "steps" => steps::put_steps(alloc, head, entries, given),
+        "tree" => kept::put_tree(alloc, case, given),
+        "kept" => kept::put_kept(rt, alloc, case, given),
         "board" => boards::put_board(rt, alloc, case, given),
-        "place" => places::put_place(case.head.as_str(), given),
-        "bloom_words" => places::put_words(case.head.as_str(), given),
+        "place" => places::put_place(head, given),
+        "bloom_words" => places::put_words(head, given),
         _ => Err(CaseError::Word),
     }
 }

@@ -3,7 +3,7 @@ ghost use Rattle.std.specs.Prelude.{◌<◌, All, IsTrue};
 
 use crate::places::hash_of;
 use bloom_block::Bloom;
-use case_text::{CaseError, Entry, number_of, numbers_of};
+use case_text::{CaseError, Entry, number_of, numbers_of, pair_of, push_read, set_read};
 use exact_filter::{Exact, RowPlaces};
 use rpt_base::Listed;
 use rpt_engine::AnyPlace;
@@ -49,50 +49,53 @@ pub fn plan_of(alloc: Global, entries: &[Entry]) -> Result<Plan<AnyPlace>, CaseE
 impl Draft {
     fn take(&mut self, alloc: Global, word: &str, rest: &str) -> Result<(), CaseError> {
         match word {
-            "morsel" => self.morsel = number_of(Some(rest))?,
-            "words" => self.words = numbers_of(alloc, rest)?,
-            "rows" => self.add_places(AnyPlace::Rows(RowPlaces::new(number_of(Some(rest))?)))?,
-            "codes" => self.add_codes(alloc, rest)?,
-            "hashes" => self.add_places(places_by_hashes(alloc, rest)?)?,
-            "pipe" => self.add_pipe(alloc, number_of(Some(rest))?)?,
-            "reads" => self.set_reads(ports_of(alloc, rest)?),
-            "writes" => self.set_writes(ports_of(alloc, rest)?),
-            _ => {}
+            "morsel" => set_read(&mut self.morsel, number_of(Some(rest))),
+            "words" => set_read(&mut self.words, numbers_of(alloc, rest)),
+            "rows" | "codes" | "hashes" => self.add_places(alloc, word, rest),
+            "pipe" => self.add_pipe(alloc, rest),
+            "reads" | "writes" => self.set_ports(alloc, word, rest),
+            _ => Ok(()),
         }
-        Ok(())
     }
 
-    fn add_places(&mut self, places: AnyPlace) -> Result<(), CaseError> {
-        self.places.push(places)?;
-        Ok(())
+    fn add_places(&mut self, alloc: Global, word: &str, rest: &str) -> Result<(), CaseError> {
+        let places = match word {
+            "rows" => places_by_rows(rest),
+            "codes" => places_by_codes(alloc, rest),
+            _ => places_by_hashes(alloc, rest),
+        };
+        push_read(&mut self.places, places)
     }
 
-    fn add_codes(&mut self, alloc: Global, rest: &str) -> Result<(), CaseError> {
-        let (count, codes) = rest.split_once(' ').unwrap_or((rest, ""));
-        self.add_places(places_by(alloc, number_of(Some(count))?, codes)?)
-    }
-
-    fn add_pipe(&mut self, alloc: Global, items: u32) -> Result<(), CaseError> {
+    fn add_pipe(&mut self, alloc: Global, items: &str) -> Result<(), CaseError> {
         self.pipes.push(Pipe {
-            items,
+            items: number_of(Some(items))?,
             reads: Listed::from_vec(Vec::new(alloc)),
             writes: Listed::from_vec(Vec::new(alloc)),
         })?;
         Ok(())
     }
 
-    // The ports of the last pipe.
-    fn set_reads(&mut self, ports: Listed<Port>) {
+    // Sets the ports of the last pipe.
+    fn set_ports(&mut self, alloc: Global, word: &str, rest: &str) -> Result<(), CaseError> {
+        let ports = ports_of(alloc, rest)?;
         if let Some(pipe) = self.pipes.last_mut() {
-            pipe.reads = ports;
+            match word {
+                "reads" => pipe.reads = ports,
+                _ => pipe.writes = ports,
+            }
         }
+        Ok(())
     }
+}
 
-    fn set_writes(&mut self, ports: Listed<Port>) {
-        if let Some(pipe) = self.pipes.last_mut() {
-            pipe.writes = ports;
-        }
-    }
+fn places_by_rows(items: &str) -> Result<AnyPlace, CaseError> {
+    Ok(AnyPlace::Rows(RowPlaces::new(number_of(Some(items))?)))
+}
+
+fn places_by_codes(alloc: Global, rest: &str) -> Result<AnyPlace, CaseError> {
+    let (count, codes) = rest.split_once(' ').unwrap_or((rest, ""));
+    places_by(alloc, number_of(Some(count))?, codes)
 }
 
 /// The places of items by these codes, which are below the count.
@@ -108,7 +111,7 @@ pub fn places_by(alloc: Global, count: u32, codes: &str) -> Result<AnyPlace, Cas
 fn places_by_hashes(alloc: Global, rest: &str) -> Result<AnyPlace, CaseError> {
     let mut hashes = Vec::new(alloc);
     for hash in rest.split_whitespace() {
-        hashes.push(hash_of(Some(hash))?)?;
+        push_read(&mut hashes, hash_of(Some(hash)))?;
     }
     if hashes.len() > 1000 {
         return Err(CaseError::Range);
@@ -125,9 +128,15 @@ fn are_below(codes: &[u32], count: u32) -> bool
 fn ports_of(alloc: Global, rest: &str) -> Result<Listed<Port>, CaseError> {
     let mut ports = Vec::new(alloc);
     for port in rest.split_whitespace() {
-        let (region, places) = port.split_once(':').ok_or(CaseError::Word)?;
-        let (region, places) = (number_of(Some(region))?, number_of(Some(places))?);
-        ports.push(Port { region, places })?;
+        push_read(&mut ports, port_of(port))?;
     }
     Ok(Listed::from_vec(ports))
+}
+
+fn port_of(text: &str) -> Result<Port, CaseError> {
+    let Some((region, places)) = text.split_once(':') else {
+        return Err(CaseError::Word);
+    };
+    let (region, places) = pair_of(Some(region), Some(places))?;
+    Ok(Port { region, places })
 }

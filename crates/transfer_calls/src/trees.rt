@@ -1,6 +1,6 @@
 // Trees of relations and what their plans are made from, as they are written.
 use crate::plans::places_by;
-use case_text::{Case, CaseError, number_of, numbers_of};
+use case_text::{Case, CaseError, number_of, numbers_of, pair_of, push_read, set_read};
 use join_graph::{Link, Tree};
 use rpt_base::Listed;
 use rpt_engine::AnyPlace;
@@ -37,13 +37,12 @@ pub fn parts_of(alloc: Global, case: &Case) -> Result<Parts, CaseError> {
 impl Parts {
     fn take(&mut self, alloc: Global, word: &str, rest: &str) -> Result<(), CaseError> {
         match word {
-            "morsel" => self.morsel = number_of(Some(rest))?,
-            "workers" => self.workers = number_of(Some(rest))?,
-            "items" => self.items = numbers_of(alloc, rest)?,
-            "edge" => self.edges.push(edge_of(alloc, rest)?)?,
-            _ => return Err(CaseError::Word),
+            "morsel" => set_read(&mut self.morsel, number_of(Some(rest))),
+            "workers" => set_read(&mut self.workers, number_of(Some(rest))),
+            "items" => set_read(&mut self.items, numbers_of(alloc, rest)),
+            "edge" => push_read(&mut self.edges, edge_of(alloc, rest)),
+            _ => Err(CaseError::Word),
         }
-        Ok(())
     }
 }
 
@@ -52,7 +51,7 @@ fn tree_of(alloc: Global, text: &str) -> Result<Tree, CaseError> {
     let root = number_of(words.next())?;
     let mut links = Vec::new(alloc);
     for link in words {
-        links.push(link_of(link)?)?;
+        push_read(&mut links, link_of(link))?;
     }
     Ok(Tree {
         root,
@@ -61,15 +60,30 @@ fn tree_of(alloc: Global, text: &str) -> Result<Tree, CaseError> {
 }
 
 fn link_of(text: &str) -> Result<Link, CaseError> {
-    let (child, parent) = text.split_once('>').ok_or(CaseError::Word)?;
-    let (child, parent) = (number_of(Some(child))?, number_of(Some(parent))?);
+    let Some((child, parent)) = text.split_once('>') else {
+        return Err(CaseError::Word);
+    };
+    let (child, parent) = pair_of(Some(child), Some(parent))?;
     Ok(Link { child, parent })
 }
 
 fn edge_of(alloc: Global, text: &str) -> Result<Edge<AnyPlace>, CaseError> {
-    let (count, codes) = text.split_once(':').ok_or(CaseError::Word)?;
-    let (child, parent) = codes.split_once('/').ok_or(CaseError::Word)?;
-    let count = number_of(Some(count))?;
+    let Some((count, codes)) = text.split_once(':') else {
+        return Err(CaseError::Word);
+    };
+    let Some((child, parent)) = codes.split_once('/') else {
+        return Err(CaseError::Word);
+    };
+    edge_by(alloc, number_of(Some(count))?, child, parent)
+}
+
+// An edge whose two sides have these codes below the count.
+fn edge_by(
+    alloc: Global,
+    count: u32,
+    child: &str,
+    parent: &str,
+) -> Result<Edge<AnyPlace>, CaseError> {
     let words = count.div_ceil(64).max(1);
     Ok(Edge {
         child: places_by(alloc, count, child)?,
