@@ -10,7 +10,8 @@ use transfer_pass::TransferRun;
 pub fn put_kept(run: &TransferRun, selected: &[u32], given: &mut String)
     requires few { length selected.now ≤ 64 }
     requires told { EachIndex selected.now (CanTell run.now) }
-    requires items { EachIndex selected.now (λ r. slice_index selected.now r ≤ item_count run.now r) }
+    requires items { EachIndex selected.now (λ r.
+        slice_index selected.now r ≤ item_count run.now r) }
 {
     put(given, "selected");
     put_numbers(selected, given);

@@ -10,7 +10,8 @@ use std::alloc::Global;
 
 /// The conjuncts of a script: those of the joined sources in order, and then those of WHERE.
 pub(crate) fn conjuncts<'a>(alloc: Global, script: &'a Script) -> Result<Vec<&'a Cond>, Memory>
-    ensures { IfOk result (λ conjuncts. map (λ c. c.now) conjuncts.items ≡ conjuncts_of script.now) }
+    ensures { IfOk result (λ conjuncts. map (λ c. c.now) conjuncts.items
+        ≡ conjuncts_of script.now) }
 {
     let mut found = Vec::new(alloc);
     for source in script.select.sources.as_slice() {
@@ -22,7 +23,8 @@ pub(crate) fn conjuncts<'a>(alloc: Global, script: &'a Script) -> Result<Vec<&'a
 
 // Puts the conjuncts of a condition that may be missing behind what was found.
 fn add_some<'a>(cond: &'a Option<Cond>, found: &mut Vec<&'a Cond>) -> Result<(), Memory>
-    ensures { OnOk result (map (λ c. c.now) found.new.items ≡ map (λ c. c.now) found.old.items ++ parts_given cond.now) }
+    ensures { OnOk result (map (λ c. c.now) found.new.items
+        ≡ map (λ c. c.now) found.old.items ++ parts_given cond.now) }
 {
     match cond {
         Some(cond) => add_parts(cond, found),
@@ -33,7 +35,8 @@ fn add_some<'a>(cond: &'a Option<Cond>, found: &mut Vec<&'a Cond>) -> Result<(),
 // The same of a condition.
 #[cycle(add_parts)]
 fn add_parts<'a>(cond: &'a Cond, found: &mut Vec<&'a Cond>) -> Result<(), Memory>
-    ensures { OnOk result (map (λ c. c.now) found.new.items ≡ map (λ c. c.now) found.old.items ++ parts_of cond.now) }
+    ensures { OnOk result (map (λ c. c.now) found.new.items
+        ≡ map (λ c. c.now) found.old.items ++ parts_of cond.now) }
 {
     match cond {
         Cond::And(members) => add_all_parts(members.as_slice(), found),
@@ -43,7 +46,8 @@ fn add_parts<'a>(cond: &'a Cond, found: &mut Vec<&'a Cond>) -> Result<(), Memory
 
 #[cycle(add_parts)]
 fn add_all_parts<'a>(conds: &'a [Cond], found: &mut Vec<&'a Cond>) -> Result<(), Memory>
-    ensures { OnOk result (map (λ c. c.now) found.new.items ≡ map (λ c. c.now) found.old.items ++ flat_map parts_of conds.now) }
+    ensures { OnOk result (map (λ c. c.now) found.new.items
+        ≡ map (λ c. c.now) found.old.items ++ flat_map parts_of conds.now) }
 {
     for cond in conds {
         add_parts(cond, found)?;

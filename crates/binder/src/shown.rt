@@ -34,7 +34,8 @@ fn add_items(
     items: &[Item],
     shown: &mut Vec<OutColumn>,
 ) -> Result<(), Memory>
-    ensures { OnOk result (shown.new.items ≡ shown.old.items ++ flat_map (item_output scope.now) items.now) }
+    ensures { OnOk result (shown.new.items
+        ≡ shown.old.items ++ flat_map (item_output scope.now) items.now) }
 {
     for item in items {
         add_item(alloc, scope, item, shown)?;
@@ -69,7 +70,8 @@ fn title_of(item: &Item) -> &Name
 
 // Puts all columns of all relations behind those that are there.
 fn add_all(alloc: Global, scope: &Scope, shown: &mut Vec<OutColumn>) -> Result<(), Memory>
-    ensures { OnOk result (shown.new.items ≡ shown.old.items ++ flat_map relation_output (enumerate_from 0 scope.now)) }
+    ensures { OnOk result (shown.new.items
+        ≡ shown.old.items ++ flat_map relation_output (enumerate_from 0 scope.now)) }
 {
     for relation in 0..scope.relations() {
         add_relation(alloc, scope, relation, shown)?;
@@ -85,7 +87,8 @@ fn add_relation(
     shown: &mut Vec<OutColumn>,
 ) -> Result<(), Memory>
     requires { relation < length scope.now }
-    ensures { OnOk result (shown.new.items ≡ shown.old.items ++ relation_output (relation, relation_at scope.now relation)) }
+    ensures { OnOk result (shown.new.items
+        ≡ shown.old.items ++ relation_output (relation, relation_at scope.now relation)) }
 {
     let columns = scope.columns(relation);
     for (place, column) in columns.iter().enumerate() {
@@ -105,7 +108,8 @@ fn add(
     title: &Name,
     shown: &mut Vec<OutColumn>,
 ) -> Result<(), Memory>
-    ensures { OnOk result (shown.new.items ≡ shown.old.items ++ record { source = source; title = title.now } ∷ []) }
+    ensures { OnOk result (shown.new.items
+        ≡ shown.old.items ++ record { source = source; title = title.now } ∷ []) }
 {
     let title = title.copy(alloc)?;
     shown.push(OutColumn { source, title })?;

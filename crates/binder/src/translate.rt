@@ -21,7 +21,8 @@ pub(crate) fn conditions(
     scope: &Scope,
     conjuncts: &[&Cond],
 ) -> Result<Listed<Pred>, Memory>
-    ensures { IfOk result (λ preds. preds ≡ conditions_of scope.now (map (λ c. c.now) conjuncts.now)) }
+    ensures { IfOk result (λ preds. preds
+        ≡ conditions_of scope.now (map (λ c. c.now) conjuncts.now)) }
 {
     let mut found = Vec::new(alloc);
     for relation in 0..scope.relations() {
@@ -39,7 +40,8 @@ fn condition_of(
     relation: u32,
     conjuncts: &[&Cond],
 ) -> Result<Pred, Memory>
-    ensures { IfOk result (λ p. p ≡ condition_of scope.now (map (λ c. c.now) conjuncts.now) relation) }
+    ensures { IfOk result (λ p. p ≡ condition_of scope.now (map (λ c. c.now) conjuncts.now)
+        relation) }
 {
     let mut all = Vec::new(alloc);
     for conjunct in conjuncts {
@@ -56,7 +58,8 @@ fn push_conjunct(
     cond: &Cond,
     into: Vec<Pred>,
 ) -> Result<Vec<Pred>, Memory>
-    ensures { IfOk result (λ all. all.items ≡ into.items ++ conditions_in scope.now relation (cond.now ∷ [])) }
+    ensures { IfOk result (λ all. all.items
+        ≡ into.items ++ conditions_in scope.now relation (cond.now ∷ [])) }
 {
     if is_condition_of(scope, relation, cond) {
         pushed(into, translated(alloc, scope, cond)?)
@@ -141,7 +144,8 @@ fn compare(
     left: &Expr,
     right: &Expr,
 ) -> Result<Pred, Memory>
-    ensures { IfOk result (λ p. p ≡ pred.Compare op (operand_of scope.now left.now) (operand_of scope.now right.now)) }
+    ensures { IfOk result (λ p. p ≡ pred.Compare op (operand_of scope.now left.now)
+        (operand_of scope.now right.now)) }
 {
     Ok(Pred::Compare {
         op,
@@ -158,7 +162,8 @@ fn between(
     low: &Expr,
     high: &Expr,
 ) -> Result<Pred, Memory>
-    ensures { IfOk result (λ p. p ≡ negated_if negated (between_of scope.now operand.now low.now high.now)) }
+    ensures { IfOk result (λ p. p ≡ negated_if negated
+        (between_of scope.now operand.now low.now high.now)) }
 {
     let least = compare(alloc, scope, Comparison::Ge, operand, low)?;
     let most = compare(alloc, scope, Comparison::Le, operand, high)?;
@@ -174,7 +179,8 @@ fn in_list(
     operand: &Expr,
     values: &[Value],
 ) -> Result<Pred, Memory>
-    ensures { IfOk result (λ p. p ≡ negated_if negated (is_in (operand_of scope.now operand.now) values.now)) }
+    ensures { IfOk result (λ p. p ≡ negated_if negated
+        (is_in (operand_of scope.now operand.now) values.now)) }
 {
     let mut any = Vec::new(alloc);
     for value in values {
@@ -186,7 +192,8 @@ fn in_list(
 
 // An operand is equal to a value.
 fn equals(alloc: Global, scope: &Scope, left: &Expr, value: &Value) -> Result<Pred, Memory>
-    ensures { IfOk result (λ p. p ≡ pred.Compare op.Eq (operand_of scope.now left.now) (operand.Literal value.now)) }
+    ensures { IfOk result (λ p. p ≡ pred.Compare op.Eq (operand_of scope.now left.now)
+        (operand.Literal value.now)) }
 {
     Ok(Pred::Compare {
         op: Comparison::Eq,
@@ -202,7 +209,8 @@ fn like(
     left: &Expr,
     pattern: &Str,
 ) -> Result<Pred, Memory>
-    ensures { IfOk result (λ p. p ≡ negated_if negated (pred.Like (operand_of scope.now left.now) pattern.now)) }
+    ensures { IfOk result (λ p. p ≡ negated_if negated
+        (pred.Like (operand_of scope.now left.now) pattern.now)) }
 {
     let like = Pred::Like {
         left: operand(alloc, scope, left)?,

@@ -81,7 +81,8 @@ pub(crate) fn table_numbers(
     tables: &[Decl],
 ) -> Result<Vec<u32>, Memory>
     requires few { length tables.now ≤ MAX_RELATIONS }
-    ensures { IfOk result (λ numbers. numbers.items ≡ map (table_number tables.now) script.now.select.sources) }
+    ensures { IfOk result (λ numbers. numbers.items
+        ≡ map (table_number tables.now) script.now.select.sources) }
 {
     let mut numbers = Vec::new(alloc);
     for source in script.select.sources.as_slice() {

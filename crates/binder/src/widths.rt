@@ -18,7 +18,8 @@ pub(crate) fn variables(
     requires narrow { AreNarrow tables.now }
     requires widths { AreWidths (widths_in tables.now table_of.now) }
     requires equalities { AreEqualities (widths_in tables.now table_of.now) equalities.now }
-    ensures { IfOk result (λ known. AreQueryVariables (widths_in tables.now table_of.now) equalities.now known) }
+    ensures { IfOk result (λ known. AreQueryVariables (widths_in tables.now table_of.now)
+        equalities.now known) }
 {
     let widths = widths(alloc, tables, table_of)?;
     Variables::find(alloc, &widths, equalities)

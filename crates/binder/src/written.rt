@@ -17,7 +17,8 @@ pub(crate) fn equalities(
     scope: &Scope,
     conjuncts: &[&Cond],
 ) -> Result<Vec<Equality>, Memory>
-    ensures { IfOk result (λ all. all.items ≡ flat_map (equality_of scope.now) (map (λ c. c.now) conjuncts.now)) }
+    ensures { IfOk result (λ all. all.items
+        ≡ flat_map (equality_of scope.now) (map (λ c. c.now) conjuncts.now)) }
 {
     let mut found = Vec::new(alloc);
     for conjunct in conjuncts {
@@ -56,7 +57,8 @@ fn equality_of(scope: &Scope, cond: &Cond) -> Option<Equality>
 
 // The equality of two operands, if both are columns.
 fn equality_between(scope: &Scope, left: &Expr, right: &Expr) -> Option<Equality>
-    ensures { option_to_list result ≡ equality_between (columns_of_operands scope.now (left.now ∷ right.now ∷ [])) }
+    ensures { option_to_list result ≡ equality_between
+        (columns_of_operands scope.now (left.now ∷ right.now ∷ [])) }
 {
     match (column_of(scope, left), column_of(scope, right)) {
         (Some(left), Some(right)) => Some(Equality { left, right }),

@@ -151,7 +151,8 @@ impl Bound {
         ensures limit { length self.now.known.sets ≤ MAX_RELATIONS }
         ensures rise { All (λ s. IsStrictlyIncreasing s) self.now.known.sets }
         ensures few { All (λ s. length s ≤ MAX_COLUMNS) self.now.known.sets }
-        ensures known { AreQueryVariables (widths_of self.now.query) self.now.query.equalities self.now.known }
+        ensures known { AreQueryVariables (widths_of self.now.query)
+            self.now.query.equalities self.now.known }
     {
         self.variables.sets()
     }

@@ -84,7 +84,8 @@ impl Variables {
 // The classes with columns in two or more relations, by their least columns.
 fn variables_of(alloc: Global, places: &[Labelled]) -> Result<Vec<Vec<ColumnRef>>, Memory>
     requires { AreInOrder places.now }
-    ensures { IfOk result (λ variables. AreByLabel places.now (length places.now) (lists_in variables.items)) }
+    ensures { IfOk result (λ variables. AreByLabel places.now (length places.now)
+        (lists_in variables.items)) }
 {
     let mut variables = Vec::new(alloc);
     'places: for place in 0..places.len() {
@@ -101,7 +102,8 @@ fn variables_of(alloc: Global, places: &[Labelled]) -> Result<Vec<Vec<ColumnRef>
 // The columns with a label.
 fn columns_with(alloc: Global, places: &[Labelled], label: usize) -> Result<Vec<ColumnRef>, Memory>
     requires { AreInOrder places.now }
-    ensures { IfOk result (λ columns. AreOfLabel places.now label (length places.now) columns.items) }
+    ensures { IfOk result (λ columns. AreOfLabel places.now label (length places.now)
+        columns.items) }
 {
     let mut columns = Vec::new(alloc);
     'places: for i in 0..places.len() {
@@ -146,7 +148,8 @@ fn local_pairs(
 // The pairs of columns of a relation with one label.
 fn pairs_of(alloc: Global, places: &[Labelled], relation: u32) -> Result<Vec<(u32, u32)>, Memory>
     requires { AreInOrder places.now }
-    ensures { IfOk result (λ pairs. ArePairsBefore places.now relation (length places.now) 0 pairs.items) }
+    ensures { IfOk result (λ pairs. ArePairsBefore places.now relation
+        (length places.now) 0 pairs.items) }
 {
     let mut pairs = Vec::new(alloc);
     'places: for i in 0..places.len() {
@@ -161,8 +164,10 @@ fn pairs_of(alloc: Global, places: &[Labelled], relation: u32) -> Result<Vec<(u3
 fn add_pairs(pairs: &mut Vec<(u32, u32)>, places: &[Labelled], i: usize) -> Result<(), Memory>
     requires order { AreInOrder places.now }
     requires place { i < length places.now }
-    requires pairs { ArePairsBefore places.now (column_at places.now i).relation i 0 pairs.old.items }
-    ensures { OnOk result (ArePairsBefore places.now (column_at places.now i).relation (i + 1) 0 pairs.new.items) }
+    requires pairs { ArePairsBefore places.now
+        (column_at places.now i).relation i 0 pairs.old.items }
+    ensures { OnOk result (ArePairsBefore places.now (column_at places.now i).relation
+        (i + 1) 0 pairs.new.items) }
 {
     let first = places[i];
     'later: for j in i + 1..places.len() {

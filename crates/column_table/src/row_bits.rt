@@ -87,7 +87,8 @@ impl RowBits {
     fn next_from(&self, from: u32) -> u32
         requires { from ≤ length self.now }
         ensures bounds { (from ≤ result) × (result ≤ length self.now) }
-        ensures passed { (row : ℕ) → from ≤ row → row < result → slice_index_or self.now row false ≡ false }
+        ensures passed { (row : ℕ) → from ≤ row → row < result
+            → slice_index_or self.now row false ≡ false }
         ensures found { result < length self.now → slice_index_or self.now result false ≡ true }
     {
         let rows = self.rows() as usize;

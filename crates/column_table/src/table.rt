@@ -40,7 +40,8 @@ impl Table {
     pub fn push_row(&mut self, row: &[Value]) -> Result<(), Memory>
         requires types { IsTrue (has_types self.old.kinds row.now) }
         requires room { length self.old.rows < MAX_ROWS }
-        ensures ok { OnOk result (self.new ≡ record self.old { rows = self.old.rows ++ row.now ∷ [] }) }
+        ensures ok { OnOk result (self.new
+            ≡ record self.old { rows = self.old.rows ++ row.now ∷ [] }) }
         ensures err { OnErr result (self.new ≡ self.old) }
     {
         self.builder.restart();

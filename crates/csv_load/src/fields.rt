@@ -18,7 +18,8 @@ pub(crate) fn put_field(
     field: &[u8],
 ) -> Result<bool, Memory>
     requires { slice_get builder.old.kinds (length builder.old.started) ≡ Some kind }
-    ensures { IfOk result (λ good. PutsField (field_value kind field.now) builder.old builder.new good) }
+    ensures { IfOk result (λ good. PutsField (field_value kind field.now)
+        builder.old builder.new good) }
 {
     match kind {
         ColumnType::Int => match int_of(field) {

@@ -45,7 +45,8 @@ impl<'a> RowLayout<'a> {
         header: ByteRecord,
     ) -> Result<RowLayout<'a>, LoadError>
         requires { length columns.now ≤ MAX_COLUMNS }
-        ensures places { IfOk result (λ layout. places_said columns.now (fields_of header) ≡ Ok layout.places) }
+        ensures places { IfOk result (λ layout.
+            places_said columns.now (fields_of header) ≡ Ok layout.places) }
         ensures columns { IfOk result (λ layout. layout.columns ≡ columns.now) }
         ensures header { IfOk result (λ layout. layout.header ≡ fields_of header) }
         ensures refused { Refuses (places_said columns.now (fields_of header)) result }
@@ -68,8 +69,10 @@ impl<'a> RowLayout<'a> {
     ) -> Result<(), LoadError>
         requires kinds { builder.old.kinds ≡ types_of self.now.columns }
         requires none_yet { builder.old.started ≡ [] }
-        ensures cells { OnOk result (cells_in self.now row (fields_of fields.now) ≡ Ok builder.new.started) }
-        ensures others { OnOk result (builder.new ≡ record builder.old { started = builder.new.started }) }
+        ensures cells { OnOk result (cells_in self.now row (fields_of fields.now)
+            ≡ Ok builder.new.started) }
+        ensures others { OnOk result (builder.new
+            ≡ record builder.old { started = builder.new.started }) }
         ensures refused { Refuses (cells_in self.now row (fields_of fields.now)) result }
     {
         if !is_as_long(fields, &self.header) {
@@ -99,7 +102,8 @@ fn places_of(
     header: &ByteRecord,
 ) -> Result<Vec<usize>, LoadError>
     requires { length columns.now ≤ MAX_COLUMNS }
-    ensures places { IfOk result (λ places. places_said columns.now (fields_of header.now) ≡ Ok places.items) }
+    ensures places { IfOk result (λ places.
+        places_said columns.now (fields_of header.now) ≡ Ok places.items) }
     ensures refused { Refuses (places_said columns.now (fields_of header.now)) result }
 {
     let mut places = Vec::with_capacity(alloc, columns.len())?;

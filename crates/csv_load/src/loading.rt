@@ -23,7 +23,8 @@ use std::alloc::Global;
 /// bad record.
 pub fn load(alloc: Global, bytes: &[u8], decl: &Decl) -> Result<Table, LoadError>
     requires { length decl.now.columns ≤ MAX_COLUMNS }
-    ensures rows { IfOk result (λ table. file_table MAX_ROWS decl.now.columns bytes.now ≡ Ok table.rows) }
+    ensures rows { IfOk result (λ table. file_table MAX_ROWS decl.now.columns bytes.now
+        ≡ Ok table.rows) }
     ensures kinds { IfOk result (λ table. table.kinds ≡ types_of decl.now.columns) }
     ensures refused { Refuses (file_table MAX_ROWS decl.now.columns bytes.now) result }
 {

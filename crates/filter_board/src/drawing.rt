@@ -121,7 +121,8 @@ impl<P: Placement + Drop> Board<P> {
     ) -> bool
         requires about { (C.items ≡ items.now) × (C.port ≡ port) × (C.mask ≡ mask) }
         requires own { seat.old.table_id ≡ self.now.of }
-        requires items { All (MayPut (job_in P.seen self.now) pipe port seat.old.me.0.actor) items.now }
+        requires items { All (MayPut (job_in P.seen self.now) pipe port seat.old.me.0.actor)
+            items.now }
         requires run { IsRun P.seen self.now pipe port items.now at mask }
         requires inside { at < self.now.of.words }
         requires part { 0 < seat.old.me.0.parts }
@@ -145,7 +146,8 @@ impl<P: Placement + Drop> Board<P> {
     )
         requires about { (C.items ≡ items.now) × (C.port ≡ port) }
         requires own { seat.old.table_id ≡ self.now.of }
-        requires items { All (MayPut (job_in P.seen self.now) pipe port seat.old.me.0.actor) items.now }
+        requires items { All (MayPut (job_in P.seen self.now) pipe port seat.old.me.0.actor)
+            items.now }
         requires run { IsRun P.seen self.now pipe port items.now at mask }
         requires inside { at < self.now.of.words }
         requires part { 0 < seat.old.me.0.parts }

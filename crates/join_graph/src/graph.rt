@@ -97,7 +97,8 @@ impl Graph {
         requires { HasParents (length self.now) tree.now.root tree.now.links }
         ensures weight { result ≡ total (weight_of self.now) tree.now.links }
         ensures bounded { result ≤ needed_of self.now }
-        ensures joins { (result ≡ needed_of self.now) ↔ IsJoinList self.now tree.now.root tree.now.links }
+        ensures joins { (result ≡ needed_of self.now)
+            ↔ IsJoinList self.now tree.now.root tree.now.links }
     {
         // Reading the sets brings in what every graph keeps to, and with it a bound for the sum.
         let _sets = &self.var_sets;

@@ -6,5 +6,6 @@ ghost use Rattle.join_graph.specs.Weights.{IsBest};
 /// relations there is such a weight, and there is only one.
 pub fn has_best()
     ensures there { (n : ℕ) (weight : ℕ → ℕ → ℕ) → 1 ≤ n → (best : ℕ) × IsBest n weight best }
-    ensures one { (n : ℕ) (weight : ℕ → ℕ → ℕ) (a b : ℕ) → IsBest n weight a → IsBest n weight b → a ≡ b }
+    ensures one { (n : ℕ) (weight : ℕ → ℕ → ℕ) (a b : ℕ) → IsBest n weight a → IsBest n weight b
+        → a ≡ b }
 {}

@@ -62,7 +62,8 @@ fn copied(alloc: Global, variables: &[u32]) -> Result<Vec<u32>, Memory>
 
 /// The same sets once more.
 pub(crate) fn copy_sets(alloc: Global, sets: &[Vec<u32>]) -> Result<Vec<Vec<u32>>, Memory>
-    ensures { IfOk result (λ copies. map (λ s. s.items) copies.items ≡ map (λ s. s.items) sets.now) }
+    ensures { IfOk result (λ copies. map (λ s. s.items) copies.items
+        ≡ map (λ s. s.items) sets.now) }
 {
     let mut copies = Vec::new(alloc);
     for set in sets {

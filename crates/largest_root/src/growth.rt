@@ -23,7 +23,8 @@ fn grow_set(
     requires sizes { length sizes.now ≡ length graph.now }
     requires root { root < length graph.now }
     requires within { (r : ℕ) → set_of set r ≡ true → r < length graph.now }
-    requires known { (r : ℕ) → has r (listed_by (root ∷ []) links.old.items) ≡ true → r < length graph.now }
+    requires known { (r : ℕ) → has r (listed_by (root ∷ []) links.old.items) ≡ true
+        → r < length graph.now }
     ensures { IfOk result (λ _. GrowsOver graph.now sizes.now set root links.old.items links.new.items) }
 {
     while let Some(link) = best_link(graph, sizes, set, root, links) {

@@ -17,9 +17,12 @@ pub fn has_grown_tree()
 /// The theorem on what `join_tree` gives, for all relations and sizes; the call does nothing. Relations with a join list have
 /// such a tree, and only one. Those with none have the two numbers of a refusal, and only these.
 pub fn has_tree()
-    ensures there { (vs : List (List ℕ)) (sizes : List ℕ) → AreRising vs → IsAcyclic vs → (t : Tree) × IsLargestRoot vs sizes t }
-    ensures one { (vs : List (List ℕ)) (sizes : List ℕ) (s t : Tree) → IsLargestRoot vs sizes s → IsLargestRoot vs sizes t → s ≡ t }
+    ensures there { (vs : List (List ℕ)) (sizes : List ℕ) → AreRising vs → IsAcyclic vs → (t : Tree)
+        × IsLargestRoot vs sizes t }
+    ensures one { (vs : List (List ℕ)) (sizes : List ℕ) (s t : Tree) → IsLargestRoot vs sizes s
+        → IsLargestRoot vs sizes t → s ≡ t }
     ensures refused { (vs : List (List ℕ)) → 1 ≤ length vs → AreRising vs
         → IsAcyclic vs ⊎ ((best : ℕ) × (needed : ℕ) × IsCyclic vs best needed) }
-    ensures one_refusal { (vs : List (List ℕ)) (a m b n : ℕ) → IsCyclic vs a m → IsCyclic vs b n → (a ≡ b) × (m ≡ n) }
+    ensures one_refusal { (vs : List (List ℕ)) (a m b n : ℕ) → IsCyclic vs a m → IsCyclic vs b n
+        → (a ≡ b) × (m ≡ n) }
 {}

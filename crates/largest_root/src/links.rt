@@ -48,8 +48,10 @@ fn better_of(
     requires root { root < length graph.now }
     requires child { child < length graph.now }
     requires small { child < 32 }
-    requires best { IsBestSoFar graph.now sizes.now (set_of set) (listed_by (root ∷ []) links.now) child best }
-    ensures { IsBestSoFar graph.now sizes.now (set_of set) (listed_by (root ∷ []) links.now) (child + 1) result }
+    requires best { IsBestSoFar graph.now sizes.now (set_of set) (listed_by (root ∷ []) links.now)
+        child best }
+    ensures { IsBestSoFar graph.now sizes.now (set_of set) (listed_by (root ∷ []) links.now)
+        (child + 1) result }
 {
     if !is_in(set, child) {
         return best;
@@ -75,7 +77,8 @@ pub(crate) fn best_link(
 ) -> Option<Link>
     requires sizes { length sizes.now ≡ length graph.now }
     requires root { root < length graph.now }
-    ensures { IsBestSoFar graph.now sizes.now (set_of set) (listed_by (root ∷ []) links.now) (length graph.now) result }
+    ensures { IsBestSoFar graph.now sizes.now (set_of set) (listed_by (root ∷ []) links.now)
+        (length graph.now) result }
 {
     let mut best: Option<Link> = None;
     for child in 0..graph.relations() {

@@ -59,7 +59,8 @@ pub(crate) fn best_parent(graph: &Graph, root: u32, links: &[Link], child: u32) 
     requires child { child < length graph.now }
     ensures known { result < length graph.now }
     ensures shown { has result (listed_by (root ∷ []) links.now) ≡ true }
-    ensures best { IsBestParent graph.now (listed_by (root ∷ []) links.now) child (length graph.now) result }
+    ensures best { IsBestParent graph.now (listed_by (root ∷ []) links.now) child (length graph.now)
+        result }
 {
     let mut best = root;
     for parent in 0..graph.relations() {

@@ -37,7 +37,8 @@ pub fn grow(alloc: Global, graph: &Graph, sizes: &[u32], chain: &[RelSet]) -> Re
 /// `Cyclic` comes exactly where the relations have no join list.
 pub fn join_tree(alloc: Global, graph: &Graph, sizes: &[u32]) -> Result<Tree, TreeError>
     requires { length sizes.now ≡ length graph.now }
-    ensures { MatchResult result (λ t. IsLargestRoot graph.now sizes.now t) (λ e. IsRefused graph.now e) }
+    ensures { MatchResult result (λ t. IsLargestRoot graph.now sizes.now t)
+        (λ e. IsRefused graph.now e) }
 {
     let Ok(tree) = grow_one(alloc, graph, sizes, graph.all()) else {
         return Err(TreeError::Memory);

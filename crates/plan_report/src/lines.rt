@@ -58,7 +58,8 @@ fn put_relation(
 
 /// A line for each variable.
 pub(crate) fn put_variables(out: &mut Vec<u8>, bound: &Bound) -> Result<(), Memory>
-    requires { AreQueryVariables (widths_of bound.now.query) bound.now.query.equalities bound.now.known }
+    requires { AreQueryVariables (widths_of bound.now.query)
+        bound.now.query.equalities bound.now.known }
     ensures { OnOk result (out.new.items ≡ out.old.items
         ++ variable_lines bound.now.query bound.now.known.variables) }
 {

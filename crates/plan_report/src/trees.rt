@@ -55,7 +55,8 @@ fn put_prefix(
     count: u32,
     list: &Option<Tree>,
 ) -> Result<(), Memory>
-    requires { IfSome list.now (λ tree. HasParents (length bound.now.query.table_of) tree.root tree.links) }
+    requires { IfSome list.now (λ tree. HasParents (length bound.now.query.table_of)
+        tree.root tree.links) }
     ensures { OnOk result (out.new.items ≡ out.old.items
         ++ prefix_line bound.now.query (count, list.now)) }
 {

@@ -77,8 +77,10 @@ fn fit_front<'a>(pattern: &'a str, text: &'a str) -> Fit<'a>
 
 // The first character, and the text behind it.
 fn split_first(text: &str) -> Option<(char, &str)>
-    ensures chars { MatchOption result (chars text.now ≡ []) (λ x. chars text.now ≡ x.0 ∷ chars x.1.now) }
-    ensures shorter { MatchOption result (length text.now ≡ 0) (λ x. length x.1.now < length text.now) }
+    ensures chars { MatchOption result (chars text.now ≡ [])
+        (λ x. chars text.now ≡ x.0 ∷ chars x.1.now) }
+    ensures shorter { MatchOption result (length text.now ≡ 0)
+        (λ x. length x.1.now < length text.now) }
 {
     let mut characters = text.chars();
     let first = characters.next()?;

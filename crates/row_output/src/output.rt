@@ -32,7 +32,8 @@ pub fn text(
 ) -> Result<Vec<u8>, Memory>
     requires tables { AreTables bound.now.query tables.now }
     requires rows { All (AreRowNumbers bound.now.query tables.now) answer.now.rows }
-    ensures { IfOk result (λ text. text.items ≡ output_text bound.now.query tables.now answer.now.rows) }
+    ensures { IfOk result (λ text. text.items
+        ≡ output_text bound.now.query tables.now answer.now.rows) }
 {
     let mut writer = WriterBuilder::new().from_writer(Vec::new(alloc));
     let mut fields = ByteRecord::new(alloc);
@@ -55,7 +56,8 @@ fn write_rows(
 ) -> Result<(), Memory>
     requires tables { AreTables bound.now.query tables.now }
     requires rows { All (AreRowNumbers bound.now.query tables.now) answer.now.rows }
-    ensures { WritesMore result writer.old writer.new (rows_text bound.now.query tables.now answer.now.rows) }
+    ensures { WritesMore result writer.old writer.new
+        (rows_text bound.now.query tables.now answer.now.rows) }
 {
     'rows: for row in 0..answer.count() {
         write_row(writer, fields, answer.row(row), bound, tables)?;
@@ -72,7 +74,8 @@ fn write_row(
 ) -> Result<(), Memory>
     requires tables { AreTables bound.now.query tables.now }
     requires numbers { AreRowNumbers bound.now.query tables.now numbers.now }
-    ensures { WritesMore result writer.old writer.new (rows_text bound.now.query tables.now (numbers.now ∷ [])) }
+    ensures { WritesMore result writer.old writer.new
+        (rows_text bound.now.query tables.now (numbers.now ∷ [])) }
 {
     put_cells(fields, numbers, bound, tables)?;
     write(writer, fields)
@@ -80,7 +83,8 @@ fn write_row(
 
 // Writes a record behind what was written.
 fn write(writer: &mut Writer<Vec<u8>>, fields: &ByteRecord) -> Result<(), Memory>
-    ensures { WritesMore result writer.old writer.new (row_text default_writer (fields_of fields.now)) }
+    ensures { WritesMore result writer.old writer.new
+        (row_text default_writer (fields_of fields.now)) }
 {
     match writer.write_byte_record(fields) {
         Ok(()) => Ok(()),
@@ -106,7 +110,8 @@ fn put_cells(
 ) -> Result<(), Memory>
     requires tables { AreTables bound.now.query tables.now }
     requires numbers { AreRowNumbers bound.now.query tables.now numbers.now }
-    ensures { OnOk result (fields_of fields.new ≡ cells bound.now.query tables.now bound.now.query.output numbers.now) }
+    ensures { OnOk result (fields_of fields.new
+        ≡ cells bound.now.query tables.now bound.now.query.output numbers.now) }
 {
     fields.clear();
     let columns = bound.output();
@@ -118,7 +123,8 @@ fn put_cells(
 
 // The number's text is written to a buffer on the stack.
 fn put_cell(fields: &mut ByteRecord, cell: Cell<'_>) -> Result<(), Memory>
-    ensures field { OnOk result (PutsField fields.old fields.new (field_text (value_of cell.entry))) }
+    ensures field { OnOk result (PutsField fields.old fields.new
+        (field_text (value_of cell.entry))) }
     ensures between { OnOk result (partial_of fields.new ≡ []) }
 {
     let mut buffer = Buffer::new();

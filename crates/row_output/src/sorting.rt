@@ -52,7 +52,8 @@ fn headed(row: &[u32]) -> Headed<'_>
 // The lists, to be sorted.
 fn rows_of(alloc: Global, answer: &Answer) -> Result<Vec<Headed<'_>>, Memory>
     ensures rows { IfOk result (λ rows. map (λ row. row.2.now) rows.items ≡ answer.now.rows) }
-    ensures wide { IfOk result (λ rows. All (λ row. length row.2.now ≡ answer.now.width) rows.items) }
+    ensures wide { IfOk result (λ rows. All (λ row. length row.2.now ≡ answer.now.width)
+        rows.items) }
     ensures heads { IfOk result (λ rows. All (λ row. IsHead row.0 row.1 row.2.now) rows.items) }
 {
     let mut rows = Vec::with_capacity(alloc, answer.count() as usize)?;

@@ -26,7 +26,8 @@ pub fn selected(
     ensures rows { IfOk result (λ rows. rows.items ≡ selected_rows bound.now tables.now relation) }
     ensures rise { IfOk result (λ rows. IsStrictlyIncreasing rows.items) }
     ensures few { IfOk result (λ rows. length rows.items ≤ MAX_ROWS) }
-    ensures below { IfOk result (λ rows. AreRows (table_at bound.now.query tables.now relation) rows.items) }
+    ensures below { IfOk result (λ rows. AreRows (table_at bound.now.query tables.now relation)
+        rows.items) }
 {
     let table = table_at(bound, tables, relation);
     // Its clause says how many rows there may be.

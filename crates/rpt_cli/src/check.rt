@@ -17,7 +17,8 @@ const SIZES: [u32; MAX_RELATIONS as usize] = [0; MAX_RELATIONS as usize];
 /// Reports how a query that is ready is answered, before anything is known of its tables.
 pub(crate) fn check(alloc: Global, ready: &Ready) -> Result<Vec<u8>, Refusal>
     requires { IsReady ready.now.bound ready.now.prepared ready.now.options }
-    ensures { GivesUnasked (check_course ready.now.bound ready.now.options.order) (bytes_of result) }
+    ensures { GivesUnasked (check_course ready.now.bound ready.now.options.order)
+        (bytes_of result) }
 {
     // Its clause says that there is one plan.
     has_plan();

@@ -53,14 +53,17 @@ pub fn run_command<R: Threads + Sync, F: Files, S: Sink, M: Sink, G: Gate + Sync
 
     // No usage, read fault or write fault without its cause: on status 2 the words are no command, or they give an
     // order.
-    ensures usage { result ≡ 2 → IfSome (command_of (words_of words.now)) (λ command. IsSome command.order) }
-    ensures read_fault { result ≡ 3 → (name : List ℕ) × Rose (F.faults files.old name) (F.faults files.new name) }
+    ensures usage { result ≡ 2 → IfSome (command_of (words_of words.now))
+        (λ command. IsSome command.order) }
+    ensures read_fault { result ≡ 3 → (name : List ℕ)
+        × Rose (F.faults files.old name) (F.faults files.new name) }
     ensures write_fault { result ≡ 4 → Rose (S.faults out.old) (S.faults out.new) }
 
     // The files' contents are what they were, and no count of faults falls.
     ensures contents { F.contents files.new ≡ F.contents files.old }
     ensures later { NeverFalls (F.faults files.old) (F.faults files.new) }
-    ensures sinks_later { (S.faults out.old ≤ S.faults out.new) × (M.faults messages.old ≤ M.faults messages.new) }
+    ensures sinks_later { (S.faults out.old ≤ S.faults out.new)
+        × (M.faults messages.old ≤ M.faults messages.new) }
 
     // Nothing is put out on any other status, and no message on status 0.
     ensures silent { result ≢ 0 → result ≢ 4 → out.new ≡ out.old }

@@ -16,7 +16,8 @@ pub(crate) fn deliver<S: Sink, M: Sink>(
 ) -> u8
     ensures delivers { Delivers (put_to S.Sink out.old out.new) (put_to M.Sink messages.old messages.new)
         result (bytes_of found) }
-    ensures later { (S.faults out.old ≤ S.faults out.new) × (M.faults messages.old ≤ M.faults messages.new) }
+    ensures later { (S.faults out.old ≤ S.faults out.new)
+        × (M.faults messages.old ≤ M.faults messages.new) }
 {
     match found {
         Ok(text) => match put_text(&text, out) {

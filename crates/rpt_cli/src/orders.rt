@@ -18,7 +18,8 @@ pub(crate) fn order_of(
     text: &Option<Str>,
 ) -> Result<Option<Listed<u32>>, Refusal>
     ensures says { SaysOrder (order_of bound.now.query text.now) result }
-    ensures order { IfOk result (λ order. IfSome order (λ order. IsOrder (length bound.now.known.sets) order)) }
+    ensures order { IfOk result (λ order.
+        IfSome order (λ order. IsOrder (length bound.now.known.sets) order)) }
 {
     let Some(text) = text else {
         return Ok(None);
@@ -32,7 +33,8 @@ pub(crate) fn order_of(
 
 // The relations that the pieces of a text name.
 fn relations_named(alloc: Global, bound: &Bound, text: &[u8]) -> Result<Vec<u32>, Memory>
-    ensures { IfOk result (λ order. order.items ≡ map (relation_named bound.now.query) (pieces_of text.now)) }
+    ensures { IfOk result (λ order. order.items
+        ≡ map (relation_named bound.now.query) (pieces_of text.now)) }
 {
     let mut order = Vec::new(alloc);
     let mut rest = text;

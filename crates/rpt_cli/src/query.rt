@@ -53,7 +53,8 @@ pub(crate) fn query_in(alloc: Global, bytes: &[u8]) -> Result<Bound, Refusal>
 fn bind_script(alloc: Global, script: &Script) -> Result<Bound, Refusal>
     requires { 1 ≤ length script.now.select.sources }
     ensures bound { IfOk result (λ bound. query_of_script script.now ≡ Ok bound.query) }
-    ensures refused { IfErr result (λ e. (e ≡ Refusal.Memory) ⊎ (query_of_script script.now ≡ Err e)) }
+    ensures refused { IfErr result (λ e. (e ≡ Refusal.Memory)
+        ⊎ (query_of_script script.now ≡ Err e)) }
 {
     match bind(alloc, script) {
         Ok(bound) => Ok(bound),

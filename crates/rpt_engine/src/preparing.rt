@@ -24,7 +24,8 @@ pub struct Prepared {
 /// Prepares a query. It is Ok exactly where the query has a join list, and an order that is given is accepted or forced: each of its
 /// prefixes is then a safe set. An order that is given has each relation once.
 pub fn prepare(alloc: Global, bound: &Bound, options: &Options) -> Result<Prepared, PrepareError>
-    requires order { IfSome options.now.order (λ order. IsOrder (length bound.now.known.sets) order) }
+    requires order { IfSome options.now.order (λ order.
+        IsOrder (length bound.now.known.sets) order) }
     ensures graph { IfOk result (λ p. p.graph ≡ bound.now.known.sets) }
     ensures acyclic { IfOk result (λ p. IsAcyclic bound.now.known.sets) }
     ensures allowed { IfOk result (λ p. IsAllowed bound.now.known.sets options.now.order options.now.force) }
@@ -44,7 +45,8 @@ pub fn prepare(alloc: Global, bound: &Bound, options: &Options) -> Result<Prepar
 // Finds whether there is a join list. The sizes play no part in that.
 fn find_tree(alloc: Global, graph: &Graph) -> Result<(), PrepareError>
     ensures acyclic { IfOk result (λ _. IsAcyclic graph.now) }
-    ensures refused { IfErr result (λ e. (order : Option (List ℕ)) (force : Bool) → IsUnprepared graph.now order force e) }
+    ensures refused { IfErr result (λ e. (order : Option (List ℕ)) (force : Bool)
+        → IsUnprepared graph.now order force e) }
 {
     let sizes = [0; MAX_RELATIONS as usize];
     match join_tree(alloc, graph, &sizes[..graph.relations() as usize]) {

@@ -22,7 +22,8 @@ impl Selection {
     fn add(&mut self, rows: Vec<u32>) -> Result<(), Memory>
         requires { length rows.items < 2 ^ 32 }
         ensures rows { OnOk result (self.new.rows.items ≡ self.old.rows.items ++ rows.items ∷ []) }
-        ensures counts { OnOk result (self.new.counts.items ≡ self.old.counts.items ++ length rows.items ∷ []) }
+        ensures counts { OnOk result (self.new.counts.items
+            ≡ self.old.counts.items ++ length rows.items ∷ []) }
     {
         let count = rows.len() as u32;
         self.counts.push(count)?;
@@ -38,8 +39,10 @@ pub(crate) fn select_rows(
     tables: &[Table],
 ) -> Result<Selection, Memory>
     requires { AreTables bound.now.query tables.now }
-    ensures rows { IfOk result (λ selection. AreSelected bound.now tables.now selection.rows.items) }
-    ensures counts { IfOk result (λ selection. selection.counts.items ≡ selected_counts bound.now tables.now) }
+    ensures rows { IfOk result (λ selection.
+        AreSelected bound.now tables.now selection.rows.items) }
+    ensures counts { IfOk result (λ selection.
+        selection.counts.items ≡ selected_counts bound.now tables.now) }
 {
     let mut selection = Selection {
         rows: Vec::new(alloc),

@@ -18,7 +18,8 @@ impl HeldFiles {
     /// Files as pairs of a name and its bytes; of several files of one name the first counts.
     pub fn new(files: Vec<(Vec<u8>, Vec<u8>)>) -> HeldFiles
         ensures none_missing { ⟦<HeldFiles as Files>⟧.is_missing result ≡ λ name. false }
-        ensures contents { ⟦<HeldFiles as Files>⟧.contents result ≡ λ name. Some (held_bytes files.items name) }
+        ensures contents { ⟦<HeldFiles as Files>⟧.contents result
+            ≡ λ name. Some (held_bytes files.items name) }
         ensures no_faults { ⟦<HeldFiles as Files>⟧.faults result ≡ λ name. 0 }
     {
         let started = files.len();

@@ -37,10 +37,14 @@ impl MemoryFiles {
         piece: u32,
     ) -> Result<MemoryFiles, Memory>
         requires { 1 ≤ piece }
-        ensures missing { IfOk result (λ s. ⟦<MemoryFiles as Files>⟧.is_missing s ≡ is_missing_among files.items) }
-        ensures contents { IfOk result (λ s. ⟦<MemoryFiles as Files>⟧.contents s ≡ contents_of files.items) }
-        ensures none_started { IfOk result (λ s. (n : List ℕ) → ⟦<MemoryFiles as Files>⟧.is_started s n ≡ false) }
-        ensures no_faults { IfOk result (λ s. (n : List ℕ) → ⟦<MemoryFiles as Files>⟧.faults s n ≡ 0) }
+        ensures missing { IfOk result (λ s.
+            ⟦<MemoryFiles as Files>⟧.is_missing s ≡ is_missing_among files.items) }
+        ensures contents { IfOk result (λ s.
+            ⟦<MemoryFiles as Files>⟧.contents s ≡ contents_of files.items) }
+        ensures none_started { IfOk result (λ s.
+            (n : List ℕ) → ⟦<MemoryFiles as Files>⟧.is_started s n ≡ false) }
+        ensures no_faults { IfOk result (λ s.
+            (n : List ℕ) → ⟦<MemoryFiles as Files>⟧.faults s n ≡ 0) }
     {
         let counts = no_counts(alloc, files.len())?;
         Ok(MemoryFiles {
@@ -128,8 +132,10 @@ fn is_listed(fail: &[u32], call: u64) -> bool {
 fn raise(counts: &mut Vec<u64>, at: usize)
     requires { at < length counts.old.items }
     ensures length { length counts.new.items ≡ length counts.old.items }
-    ensures rose { Rose (slice_index_or counts.old.items at 0) (slice_index_or counts.new.items at 0) }
-    ensures later { (k : ℕ) → slice_index_or counts.old.items k 0 ≤ slice_index_or counts.new.items k 0 }
+    ensures rose { Rose (slice_index_or counts.old.items at 0)
+        (slice_index_or counts.new.items at 0) }
+    ensures later { (k : ℕ) → slice_index_or counts.old.items k 0
+        ≤ slice_index_or counts.new.items k 0 }
 {
     let count = counts[at].saturating_add(1);
     counts[at] = count;

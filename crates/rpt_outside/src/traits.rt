@@ -54,7 +54,8 @@ pub trait Files {
         ensures bytes { ReadConsumes (left self.old) (left self.new) result into.new }
 
         ensures unread { OnErr result (left self.new ≡ left self.old) }
-        ensures failed { OnErr result ((n : List ℕ) → IsTrue (is_started self.old n) → Rose (faults self.old n) (faults self.new n)) }
+        ensures failed { OnErr result ((n : List ℕ) → IsTrue (is_started self.old n)
+            → Rose (faults self.old n) (faults self.new n)) }
 
         ensures started { is_started self.new ≡ is_started self.old }
         ensures missing { is_missing self.new ≡ is_missing self.old }

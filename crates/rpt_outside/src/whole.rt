@@ -21,7 +21,8 @@ pub fn read_whole<F: Files>(
     limit: u32,
 ) -> Result<Vec<u8>, ReadError>
     ensures reads { Reads (seen F.Files files.old files.new) limit name.now (bytes_of result) }
-    ensures leaves { Leaves (F.contents files.old name.now) (F.left files.new) (F.is_started files.new) name.now (bytes_of result) }
+    ensures leaves { Leaves (F.contents files.old name.now) (F.left files.new)
+        (F.is_started files.new) name.now (bytes_of result) }
     ensures missing { F.is_missing files.new ≡ F.is_missing files.old }
     ensures contents { F.contents files.new ≡ F.contents files.old }
     ensures later { NeverFalls (F.faults files.old) (F.faults files.new) }

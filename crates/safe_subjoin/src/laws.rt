@@ -20,5 +20,6 @@ pub fn has_safe_lists()
 pub fn has_first_unsafe()
     ensures there { (vs : List (List ℕ)) (order : List ℕ) → AreRising vs → IsOrder (length vs) order
         → ((k : ℕ) → 1 ≤ k → k ≤ length vs → IsSafe vs (first_of order k)) ⊎ ((k : ℕ) × IsFirstUnsafe vs order k) }
-    ensures one { (vs : List (List ℕ)) (order : List ℕ) (a b : ℕ) → IsFirstUnsafe vs order a → IsFirstUnsafe vs order b → a ≡ b }
+    ensures one { (vs : List (List ℕ)) (order : List ℕ) (a b : ℕ) → IsFirstUnsafe vs order a
+        → IsFirstUnsafe vs order b → a ≡ b }
 {}

@@ -40,7 +40,8 @@ fn prefix_set(order: &[u32], prefix: u32) -> RelSet
 pub fn safe_order(alloc: Global, graph: &Graph, order: &[u32]) -> Result<Vec<Tree>, OrderError>
     requires acyclic { IsAcyclic graph.now }
     requires order { IsOrder (length graph.now) order.now }
-    ensures { MatchResult result (λ ts. AreSafeLists graph.now order.now ts.items) (λ e. IsOrderRefused graph.now order.now e) }
+    ensures { MatchResult result (λ ts. AreSafeLists graph.now order.now ts.items)
+        (λ e. IsOrderRefused graph.now order.now e) }
 {
     let mut lists: Vec<Tree> = Vec::new(alloc);
     for i in 0..graph.relations() {

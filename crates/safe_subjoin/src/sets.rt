@@ -27,7 +27,8 @@ fn safe_tree(
     requires set { IsSetOf (length graph.now) set }
     requires all { IsAll (length graph.now) all }
     requires graph { IsGraph graph.now }
-    ensures { MatchResult result (λ t. IsSafeList graph.now (set_of set) t) (λ e. IsSetRefused graph.now (set_of set) e) }
+    ensures { MatchResult result (λ t. IsSafeList graph.now (set_of set) t)
+        (λ e. IsSetRefused graph.now (set_of set) e) }
 {
     let Ok(tree) = grow(alloc, graph, sizes, &[set, all]) else {
         return Err(SetError::Memory);
@@ -47,7 +48,8 @@ fn safe_tree(
 pub fn safe_set(alloc: Global, graph: &Graph, set: RelSet) -> Result<Tree, SetError>
     requires acyclic { IsAcyclic graph.now }
     requires set { IsSetOf (length graph.now) set }
-    ensures { MatchResult result (λ t. IsSafeList graph.now (set_of set) t) (λ e. IsSetRefused graph.now (set_of set) e) }
+    ensures { MatchResult result (λ t. IsSafeList graph.now (set_of set) t)
+        (λ e. IsSetRefused graph.now (set_of set) e) }
 {
     let zeros = [0u32; MAX_SIZES];
     let all = graph.all();

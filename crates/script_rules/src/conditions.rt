@@ -40,7 +40,8 @@ fn in_some(scope: &Scope, cond: &Option<Cond>, found: Option<Violation>) -> Opti
 // The same of a condition.
 #[cycle(in_parts)]
 fn in_parts(scope: &Scope, cond: &Cond, found: Option<Violation>) -> Option<Violation>
-    ensures { result ≡ first_of found (flat_map (conjunct_violations scope.now) (parts_of cond.now)) }
+    ensures { result ≡ first_of found (flat_map (conjunct_violations scope.now)
+        (parts_of cond.now)) }
 {
     match cond {
         Cond::And(members) => in_all_parts(scope, members.as_slice(), found),

@@ -86,7 +86,8 @@ fn first_of_two(scope: &Scope, left: &Expr, right: &Expr) -> Option<u32>
 }
 
 fn first_of_three(scope: &Scope, operand: &Expr, low: &Expr, high: &Expr) -> Option<u32>
-    ensures { result ≡ first_relation (columns_of_operands scope.now (operand.now ∷ low.now ∷ high.now ∷ [])) }
+    ensures { result ≡ first_relation (columns_of_operands scope.now
+        (operand.now ∷ low.now ∷ high.now ∷ [])) }
 {
     match column_of(scope, operand) {
         Some(column) => Some(column.relation),
@@ -159,7 +160,8 @@ fn two_are_of(scope: &Scope, left: &Expr, right: &Expr, relation: u32) -> bool
 }
 
 fn three_are_of(scope: &Scope, operand: &Expr, low: &Expr, high: &Expr, relation: u32) -> bool
-    ensures { result ≡ are_of relation (columns_of_operands scope.now (operand.now ∷ low.now ∷ high.now ∷ [])) }
+    ensures { result ≡ are_of relation (columns_of_operands scope.now
+        (operand.now ∷ low.now ∷ high.now ∷ [])) }
 {
     one_is_of(scope, operand, relation) && two_are_of(scope, low, high, relation)
 }

@@ -42,7 +42,8 @@ pub(crate) fn in_items(scope: &Scope, items: &Items) -> Option<Violation>
 }
 
 fn in_list(scope: &Scope, items: &[Item]) -> Option<Violation>
-    ensures { result ≡ first_of None (flat_map (λ i. reference_violations scope.now i.column) items.now) }
+    ensures { result ≡ first_of None (flat_map (λ i. reference_violations scope.now i.column)
+        items.now) }
 {
     let mut found = None;
     for item in items {
@@ -175,7 +176,8 @@ pub(crate) fn in_value_types(
     values: &[Value],
     found: Option<Violation>,
 ) -> Option<Violation>
-    ensures { result ≡ first_of found (type_violations at (type_of scope.now operand.now ∷ value_types values.now)) }
+    ensures { result ≡ first_of found (type_violations at
+        (type_of scope.now operand.now ∷ value_types values.now)) }
 {
     let do_differ = match type_of(scope, operand) {
         Some(first) => has_other_type(values, first),

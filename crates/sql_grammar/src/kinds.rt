@@ -162,7 +162,8 @@ const WORDS: [(&[u8], Kind); 44] = [
 
 // The kind beside the first of these words that the word is, or else that of a name.
 fn kind_among(word: &[u8], mut words: &[(&[u8], Kind)]) -> Kind
-    ensures { result ≡ kind_among (map (λ other. (other.0.now, other.1)) words.entry.now) Kind.Name word.now }
+    ensures { result ≡ kind_among (map (λ other. (other.0.now, other.1)) words.entry.now)
+        Kind.Name word.now }
 {
     while let [other, rest @ ..] = words {
         if same(word, other.0) {

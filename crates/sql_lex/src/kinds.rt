@@ -178,7 +178,8 @@ fn text_from(alloc: Global, text: &[u8], size: usize) -> Result<Option<(TokenKin
 // The text behind its opening quote with single quotes for the doubled, and how many bytes it takes with the closing one.
 #[tactic(auto, using(crate::proofs::Steps::text_steps))]
 fn text_of(alloc: Global, bytes: &[u8]) -> Result<Option<(Vec<u8>, usize)>, Memory>
-    ensures text { IfOk result (λ found. option_map (λ f. (f.0.items, f.1)) found ≡ text_said false bytes.now) }
+    ensures text { IfOk result (λ found. option_map (λ f. (f.0.items, f.1)) found
+        ≡ text_said false bytes.now) }
     ensures within { IfOk result (λ found. IfSome found (λ f. f.1 ≤ length bytes.now)) }
 {
     let mut text = Vec::new(alloc);

@@ -9,10 +9,14 @@ ghost use Rattle.sql_lex.specs.Lexing.{lexed};
 /// The theorem on tokens, for all bytes; the call does nothing. The tokens of bytes are what `lexed` gives, and where it gives
 /// an offset, that is the one place at which no item stands. It gives one or the other: for want of memory it never fails.
 pub fn tokens_are_read()
-    ensures listed { (bytes : List ℕ) (tokens : List Tok) → IsTokenList bytes tokens → lexed bytes ≡ Ok tokens }
-    ensures is_listed { (bytes : List ℕ) (tokens : List Tok) → lexed bytes ≡ Ok tokens → IsTokenList bytes tokens }
-    ensures refused { (bytes : List ℕ) (offset : ℕ) → IsBadAt bytes offset → lexed bytes ≡ Err (error.At offset) }
-    ensures is_refused { (bytes : List ℕ) (offset : ℕ) → lexed bytes ≡ Err (error.At offset) → IsBadAt bytes offset }
+    ensures listed { (bytes : List ℕ) (tokens : List Tok) → IsTokenList bytes tokens
+        → lexed bytes ≡ Ok tokens }
+    ensures is_listed { (bytes : List ℕ) (tokens : List Tok) → lexed bytes ≡ Ok tokens
+        → IsTokenList bytes tokens }
+    ensures refused { (bytes : List ℕ) (offset : ℕ) → IsBadAt bytes offset
+        → lexed bytes ≡ Err (error.At offset) }
+    ensures is_refused { (bytes : List ℕ) (offset : ℕ) → lexed bytes ≡ Err (error.At offset)
+        → IsBadAt bytes offset }
     ensures never_memory { (bytes : List ℕ) → lexed bytes ≡ Err error.Memory → ⊥ }
 {}
 

@@ -60,7 +60,8 @@ fn mark_of(op: Comparison) -> Mark
 
 // The values behind the first.
 fn put_more_values(out: &mut Vec<u8>, values: &[Value]) -> Result<(), Memory>
-    ensures { OnOk result (Puts (behind_commas value_pieces values.now) out.old.items out.new.items) }
+    ensures { OnOk result (Puts (behind_commas value_pieces values.now)
+        out.old.items out.new.items) }
 {
     let mut rest = values;
     while let Some((next, behind)) = rest.split_first() {
@@ -72,7 +73,8 @@ fn put_more_values(out: &mut Vec<u8>, values: &[Value]) -> Result<(), Memory>
 }
 
 fn put_values(out: &mut Vec<u8>, values: &[Value]) -> Result<(), Memory>
-    ensures { OnOk result (Puts (between_commas value_pieces values.now) out.old.items out.new.items) }
+    ensures { OnOk result (Puts (between_commas value_pieces values.now)
+        out.old.items out.new.items) }
 {
     match values.split_first() {
         Some((first, more)) => {
@@ -85,7 +87,8 @@ fn put_values(out: &mut Vec<u8>, values: &[Value]) -> Result<(), Memory>
 }
 
 fn put_compare(out: &mut Vec<u8>, op: Comparison, left: &Expr, right: &Expr) -> Result<(), Memory>
-    ensures { OnOk result (Puts (compare_pieces op left.now right.now) out.old.items out.new.items) }
+    ensures { OnOk result (Puts (compare_pieces op left.now right.now)
+        out.old.items out.new.items) }
 {
     put_expr(out, left)?;
     put_mark(out, mark_of(op))?;
@@ -100,7 +103,8 @@ fn put_between(
     low: &Expr,
     high: &Expr,
 ) -> Result<(), Memory>
-    ensures { OnOk result (Puts (between_pieces operand.now negated low.now high.now) out.old.items out.new.items) }
+    ensures { OnOk result (Puts (between_pieces operand.now negated low.now high.now)
+        out.old.items out.new.items) }
 {
     put_expr(out, operand)?;
     put_not(out, negated)?;
@@ -117,7 +121,8 @@ fn put_in_list(
     negated: bool,
     values: &[Value],
 ) -> Result<(), Memory>
-    ensures { OnOk result (Puts (list_pieces operand.now negated values.now) out.old.items out.new.items) }
+    ensures { OnOk result (Puts (list_pieces operand.now negated values.now)
+        out.old.items out.new.items) }
 {
     put_expr(out, operand)?;
     put_not(out, negated)?;
@@ -129,7 +134,8 @@ fn put_in_list(
 }
 
 fn put_like(out: &mut Vec<u8>, operand: &Expr, negated: bool, pattern: &Str) -> Result<(), Memory>
-    ensures { OnOk result (Puts (like_pieces operand.now negated pattern.now) out.old.items out.new.items) }
+    ensures { OnOk result (Puts (like_pieces operand.now negated pattern.now)
+        out.old.items out.new.items) }
 {
     put_expr(out, operand)?;
     put_not(out, negated)?;
@@ -154,8 +160,7 @@ pub fn put_cond(out: &mut Vec<u8>, room: Room, cond: &Cond) -> Result<(), Memory
         }
         Cond::Not { at: _, inner } => {
             put_word(out, b"NOT")?;
-            put_cond(out, Room::InAnd, inner.get())?;
-            Ok(())
+            put_cond(out, Room::InAnd, inner.get())
         }
         Cond::Compare {
             at: _,
@@ -195,7 +200,8 @@ fn put_joined(
     members: &[Cond],
 ) -> Result<(), Memory>
     requires { IsTrue (is_word joining.now) }
-    ensures { OnOk result (Puts (joined_pieces wrapped joining.now room members.now) out.old.items out.new.items) }
+    ensures { OnOk result (Puts (joined_pieces wrapped joining.now room members.now)
+        out.old.items out.new.items) }
 {
     if wrapped {
         put_mark(out, Mark::LeftParen)?;
@@ -215,7 +221,8 @@ fn put_members(
     members: &[Cond],
 ) -> Result<(), Memory>
     requires { IsTrue (is_word joining.now) }
-    ensures { OnOk result (Puts (members_pieces (word joining.now) room members.now) out.old.items out.new.items) }
+    ensures { OnOk result (Puts (members_pieces (word joining.now) room members.now)
+        out.old.items out.new.items) }
 {
     let mut begun = false;
     for member in members {

@@ -97,7 +97,8 @@ fn put_factor(out: &mut Vec<u8>, source: &Source) -> Result<(), Memory>
 
 // A source behind the first: behind a comma, or joined.
 fn put_next_source(out: &mut Vec<u8>, source: &Source) -> Result<(), Memory>
-    ensures { OnOk result (Puts (next_source source.now.on source.now) out.old.items out.new.items) }
+    ensures { OnOk result (Puts (next_source source.now.on source.now)
+        out.old.items out.new.items) }
 {
     match &source.on {
         Some(on) => {
@@ -164,7 +165,8 @@ fn put_select(out: &mut Vec<u8>, select: &Select) -> Result<(), Memory>
 }
 
 fn put_type(out: &mut Vec<u8>, kind: ColumnType) -> Result<(), Memory>
-    ensures { OnOk result (Puts (λ more. word (type_word kind) ∷ more) out.old.items out.new.items) }
+    ensures { OnOk result (Puts (λ more. word (type_word kind) ∷ more)
+        out.old.items out.new.items) }
 {
     match kind {
         ColumnType::Int => {
@@ -188,7 +190,8 @@ fn put_declared(out: &mut Vec<u8>, column: &ColumnItem) -> Result<(), Memory>
 
 // The columns behind the first.
 fn put_more_columns(out: &mut Vec<u8>, columns: &[ColumnItem]) -> Result<(), Memory>
-    ensures { OnOk result (Puts (behind_commas declared_pieces columns.now) out.old.items out.new.items) }
+    ensures { OnOk result (Puts (behind_commas declared_pieces columns.now)
+        out.old.items out.new.items) }
 {
     let mut rest = columns;
     while let Some((next, behind)) = rest.split_first() {
@@ -200,7 +203,8 @@ fn put_more_columns(out: &mut Vec<u8>, columns: &[ColumnItem]) -> Result<(), Mem
 }
 
 fn put_columns(out: &mut Vec<u8>, columns: &[ColumnItem]) -> Result<(), Memory>
-    ensures { OnOk result (Puts (between_commas declared_pieces columns.now) out.old.items out.new.items) }
+    ensures { OnOk result (Puts (between_commas declared_pieces columns.now)
+        out.old.items out.new.items) }
 {
     match columns.split_first() {
         Some((first, more)) => {
@@ -257,7 +261,8 @@ fn text_of(alloc: Global, script: &Script) -> Result<Vec<u8>, Memory>
 /// The theorem on scripts that are read; the call does nothing. Printed, such a script has no more levels than it was read
 /// with, since parentheses stand only where they are needed.
 pub fn read_scripts_print()
-    ensures { (levels : ℕ) (tokens : List Token) (script : Tree) → IsSentence levels tokens script → script_levels script ≤ levels }
+    ensures { (levels : ℕ) (tokens : List Token) (script : Tree) → IsSentence levels tokens script
+        → script_levels script ≤ levels }
 {}
 
 /// The text of a script: its tokens, with one space between two. `Memory` is want of memory.

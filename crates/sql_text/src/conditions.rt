@@ -10,7 +10,8 @@ use std::alloc::Global;
 
 // One alone is itself.
 fn all_of(mut found: Vec<Cond>) -> Cond
-    ensures { (first : Cond) (more : List Cond) → found.items ≡ first ∷ more → result ≡ joined_conditions Cond.And first more }
+    ensures { (first : Cond) (more : List Cond) → found.items ≡ first ∷ more
+        → result ≡ joined_conditions Cond.And first more }
 {
     if found.len() > 1 {
         return Cond::And(Members::from_vec(found));
@@ -23,7 +24,8 @@ fn all_of(mut found: Vec<Cond>) -> Cond
 
 // One alone is itself.
 fn any_of(mut found: Vec<Cond>) -> Cond
-    ensures { (first : Cond) (more : List Cond) → found.items ≡ first ∷ more → result ≡ joined_conditions Cond.Or first more }
+    ensures { (first : Cond) (more : List Cond) → found.items ≡ first ∷ more
+        → result ≡ joined_conditions Cond.Or first more }
 {
     if found.len() > 1 {
         return Cond::Or(Members::from_vec(found));

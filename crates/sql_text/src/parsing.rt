@@ -108,7 +108,8 @@ fn script(
 // What was read, where no token is left.
 fn alone<T: Drop>(found: T, rest: &[Token], end: u32) -> Result<T, ParseError>
     ensures ok { IfOk result (λ all. (all ≡ found) × (length rest.now ≡ 0)) }
-    ensures err { IfErr result (λ error. (error ≡ ParseError.Syntax (place rest.now end)) × (length rest.now ≡ 0 → ⊥)) }
+    ensures err { IfErr result (λ error. (error ≡ ParseError.Syntax (place rest.now end))
+        × (length rest.now ≡ 0 → ⊥)) }
 {
     if rest.is_empty() {
         Ok(found)
@@ -126,8 +127,10 @@ fn alone<T: Drop>(found: T, rest: &[Token], end: u32) -> Result<T, ParseError>
 /// that begins a condition, up to the one that closes it, and by a NOT, up to the end of what it negates.
 pub fn parse(alloc: Global, tokens: &[Token], end: u32) -> Result<Script, ParseError>
     ensures ok { IfOk result (λ script. IsSentence MAX_LEVELS tokens.now script) }
-    ensures syntax { (at : ℕ) → result ≡ Err (ParseError.Syntax at) → IsSyntaxError MAX_LEVELS tokens.now end at }
-    ensures too_deep { (at : ℕ) → result ≡ Err (ParseError.TooDeep at) → IsTooDeep MAX_LEVELS tokens.now at }
+    ensures syntax { (at : ℕ) → result ≡ Err (ParseError.Syntax at)
+        → IsSyntaxError MAX_LEVELS tokens.now end at }
+    ensures too_deep { (at : ℕ) → result ≡ Err (ParseError.TooDeep at)
+        → IsTooDeep MAX_LEVELS tokens.now at }
     ensures well_formed { IfOk result (λ script. IsWellFormed script) }
     ensures only { IsOnlyReading MAX_LEVELS tokens.now end result }
 {

@@ -92,7 +92,8 @@ fn table_of(
     tokens: &[Token],
     end: u32,
 ) -> Result<((Alias, Option<Alias>), &[Token]), ParseError>
-    ensures { (n : ℕ) → Gives factor_of (λ found. unjoined_source found.0.0 found.0.1) (λ found. found.1.now) n tokens.now end result }
+    ensures { (n : ℕ) → Gives factor_of (λ found. unjoined_source found.0.0 found.0.1)
+        (λ found. found.1.now) n tokens.now end result }
 {
     let (table, rest) = name(alloc, tokens, end)?;
     paired(table, alias(alloc, rest, end))

@@ -80,7 +80,8 @@ fn put_run<R: Threads + Sync>(
 ) -> Result<(), CaseError>
     requires valid { IsValid (shape_of places_of plan) }
     requires tells { EachIndex items.now (CanTell (sealed_run (shape_of places_of plan))) }
-    requires items { EachIndex items.now (λ r. item_count (sealed_run (shape_of places_of plan)) r ≡ slice_index items.now r) }
+    requires items { EachIndex items.now (λ r.
+        item_count (sealed_run (shape_of places_of plan)) r ≡ slice_index items.now r) }
     requires few { length items.now ≤ 64 }
 {
     if !are_workers(workers) {

@@ -28,7 +28,8 @@ pub fn planned(
 ) -> Result<Plan<AnyPlace>, CaseError>
     ensures valid { IfOk result (λ plan. IsValid (shape_of places_of plan)) }
     ensures few { IfOk result (λ _. length items.now ≤ 64) }
-    ensures tells { IfOk result (λ plan. EachIndex items.now (CanTell (sealed_run (shape_of places_of plan)))) }
+    ensures tells { IfOk result (λ plan. EachIndex items.now
+        (CanTell (sealed_run (shape_of places_of plan)))) }
     ensures items { IfOk result (λ plan. EachIndex items.now (λ r.
         item_count (sealed_run (shape_of places_of plan)) r ≡ slice_index items.now r)) }
 {
@@ -131,7 +132,8 @@ fn serves(items: &[u32], link: Link, edge: &Edge<AnyPlace>) -> bool
 }
 
 fn has_items(places: &AnyPlace, items: &[u32], relation: u32) -> bool
-    ensures { IsTrue result → length (places_of places.now).numbers ≡ slice_index items.now relation }
+    ensures { IsTrue result → length (places_of places.now).numbers
+        ≡ slice_index items.now relation }
 {
     match items.get(relation as usize) {
         Some(count) => places.items() == *count,

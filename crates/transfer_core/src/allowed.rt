@@ -124,7 +124,8 @@ fn may_put<P: Placement>(
 ) -> bool
     requires valid { IsValid (shape_of P.seen plan.now) }
     requires of { IsStateOf (shape_of P.seen plan.now) state.now }
-    ensures { IsTrue result ↔ MayTake (shape_of P.seen plan.now) state.now (step.Put actor pipe item port) }
+    ensures { IsTrue result ↔ MayTake (shape_of P.seen plan.now) state.now
+        (step.Put actor pipe item port) }
 {
     let pipes = plan.pipes.as_slice();
     let actors = state.actors.as_slice();
@@ -145,7 +146,8 @@ fn may_put<P: Placement>(
 fn may_finish<P: Placement>(plan: &Plan<P>, state: &State, actor: u32, pipe: u32) -> bool
     requires valid { IsValid (shape_of P.seen plan.now) }
     requires of { IsStateOf (shape_of P.seen plan.now) state.now }
-    ensures { IsTrue result ↔ MayTake (shape_of P.seen plan.now) state.now (step.Finish actor pipe) }
+    ensures { IsTrue result ↔ MayTake (shape_of P.seen plan.now) state.now
+        (step.Finish actor pipe) }
 {
     let pipes = plan.pipes.as_slice();
     let actors = state.actors.as_slice();
@@ -165,7 +167,8 @@ fn may_finish<P: Placement>(plan: &Plan<P>, state: &State, actor: u32, pipe: u32
 
 // Whether it may read a word of a region.
 fn may_look<P: Placement>(plan: &Plan<P>, state: &State, actor: u32, region: u32, word: u32) -> bool
-    ensures { IsTrue result ↔ MayTake (shape_of P.seen plan.now) state.now (step.Look actor region word) }
+    ensures { IsTrue result ↔ MayTake (shape_of P.seen plan.now) state.now
+        (step.Look actor region word) }
 {
     let words = plan.words.as_slice();
     let actors = state.actors.as_slice();

@@ -81,8 +81,10 @@ impl Known {
     /// Is done with the morsel that it holds.
     pub(crate) fn end(&mut self, pipe: u32, morsel: u32)
         requires { length self.old.finished.items < vec_capacity self.old.finished }
-        ensures actor { actor_of self.new ≡ with_finished (holding pipe morsel) (actor_of self.old) }
-        ensures room { (s : Shape) → pipe < length s.pipes → HasRoom s self.old → HasRoom s self.new }
+        ensures actor { actor_of self.new
+            ≡ with_finished (holding pipe morsel) (actor_of self.old) }
+        ensures room { (s : Shape) → pipe < length s.pipes → HasRoom s self.old
+            → HasRoom s self.new }
     {
         self.held = None;
         self.puts.clear();

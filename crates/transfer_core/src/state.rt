@@ -66,7 +66,8 @@ pub fn step<P: Placement>(plan: &Plan<P>, state: &mut State, step: &Step) -> boo
     requires valid { IsValid (shape_of P.seen plan.now) }
     requires of { IsStateOf (shape_of P.seen plan.now) state.old }
     ensures allowed { IsTrue result ↔ MayTake (shape_of P.seen plan.now) state.old step.now }
-    ensures taken { result ≡ true → HasTaken (shape_of P.seen plan.now) state.old step.now state.new }
+    ensures taken { result ≡ true → HasTaken (shape_of P.seen plan.now)
+        state.old step.now state.new }
     ensures unchanged { result ≡ false → state.new ≡ state.old }
     ensures of { IsStateOf (shape_of P.seen plan.now) state.new }
 {

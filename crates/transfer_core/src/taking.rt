@@ -38,8 +38,10 @@ fn draw<P: Placement>(plan: &Plan<P>, state: &mut State, actor: u32, pipe: u32)
 fn put<P: Placement>(plan: &Plan<P>, state: &mut State, actor: u32, pipe: u32, item: u32, port: u32)
     requires valid { IsValid (shape_of P.seen plan.now) }
     requires of { IsStateOf (shape_of P.seen plan.now) state.old }
-    requires allowed { MayTake (shape_of P.seen plan.now) state.old (step.Put actor pipe item port) }
-    ensures after { HasTaken (shape_of P.seen plan.now) state.old (step.Put actor pipe item port) state.new }
+    requires allowed { MayTake (shape_of P.seen plan.now) state.old
+        (step.Put actor pipe item port) }
+    ensures after { HasTaken (shape_of P.seen plan.now) state.old (step.Put actor pipe item port)
+        state.new }
     ensures room { HaveRoom (shape_of P.seen plan.now) state.new }
 {
     let from = &plan.pipes.as_slice()[pipe as usize];
@@ -54,7 +56,8 @@ fn finish<P: Placement>(plan: &Plan<P>, state: &mut State, actor: u32, pipe: u32
     requires valid { IsValid (shape_of P.seen plan.now) }
     requires of { IsStateOf (shape_of P.seen plan.now) state.old }
     requires allowed { MayTake (shape_of P.seen plan.now) state.old (step.Finish actor pipe) }
-    ensures after { HasTaken (shape_of P.seen plan.now) state.old (step.Finish actor pipe) state.new }
+    ensures after { HasTaken (shape_of P.seen plan.now) state.old (step.Finish actor pipe)
+        state.new }
     ensures room { HaveRoom (shape_of P.seen plan.now) state.new }
 {
     let Some(held) = state.actors[actor as usize].held else {

@@ -115,7 +115,8 @@ fn work_if_ready<P: Placement + Drop>(board: &Board<P>, hand: &mut Hand, pipe: u
     ensures free { IsFree board.now.of hand.new }
     ensures parts { hand.new.parts ≡ hand.old.parts }
     ensures seen { hand.new.actor.seen ≡ hand.old.actor.seen }
-    ensures told { HasSeenReads (job_in P.seen board.now) pipe hand.old.actor → IsTold hand.new.told pipe }
+    ensures told { HasSeenReads (job_in P.seen board.now) pipe hand.old.actor
+        → IsTold hand.new.told pipe }
     ensures keeps { (p : ℕ) → IsTold hand.old.told p → IsTold hand.new.told p }
 {
     if board.may_draw(hand, pipe) {

@@ -11,7 +11,8 @@ use key_codes::Placement;
 /// The regions of a tree's plan are numbered in the order in which the pipes write them, each is written by one port of one
 /// pipe, and what a pipe reads is written by pipes before it.
 pub fn numbers_regions()
-    ensures { (n root : ℕ) (links : List Link) → HasParents n root links → NumbersRegions root links }
+    ensures { (n root : ℕ) (links : List Link) → HasParents n root links
+        → NumbersRegions root links }
 {}
 
 /// An item passes its relation's forward pipe where for each child some item that passes the child's has the same number on
@@ -20,9 +21,12 @@ pub fn numbers_regions()
 /// answer yes for. Where no keys are passed, all items pass.
 pub fn passes_by_numbers<P: Placement>()
     ensures root { (t : TreePlan P) → IsMade P.seen t → KeepsAtRoot P.seen t }
-    ensures numbers { (t : TreePlan P) → IsMade P.seen t → HasExactEdges P.seen t → PassesByNumbers P.seen t }
-    ensures filters { (t : TreePlan P) → IsMade P.seen t → HasAlikeEdges P.seen t → PassesByFilters P.seen t }
-    ensures found { (t : TreePlan P) → IsMade P.seen t → HasAlikeEdges P.seen t → PassesFound P.seen t }
+    ensures numbers { (t : TreePlan P) → IsMade P.seen t → HasExactEdges P.seen t
+        → PassesByNumbers P.seen t }
+    ensures filters { (t : TreePlan P) → IsMade P.seen t → HasAlikeEdges P.seen t
+        → PassesByFilters P.seen t }
+    ensures found { (t : TreePlan P) → IsMade P.seen t → HasAlikeEdges P.seen t
+        → PassesFound P.seen t }
     ensures all { (t : TreePlan P) → IsMade P.seen t → length t.edges ≡ 0 → PassesAll P.seen t }
 {}
 

@@ -36,7 +36,8 @@ fn add_upward(
 ) -> Result<(), Memory>
     requires layout { IsLayout layout.now }
     requires within { All (λ r. r < length layout.now.items.now) members.now }
-    ensures { OnOk result (pipes.new.items ≡ pipes.old.items ++ map (forward_of layout.now) members.now) }
+    ensures { OnOk result (pipes.new.items
+        ≡ pipes.old.items ++ map (forward_of layout.now) members.now) }
 {
     for relation in members {
         pipes.push(layout.forward_pipe(alloc, *relation)?)?;
@@ -53,7 +54,8 @@ fn add_downward(
 ) -> Result<(), Memory>
     requires layout { IsLayout layout.now }
     requires within { All (λ r. r < length layout.now.items.now) members.now }
-    ensures { OnOk result (pipes.new.items ≡ pipes.old.items ++ map (backward_of layout.now) members.now) }
+    ensures { OnOk result (pipes.new.items
+        ≡ pipes.old.items ++ map (backward_of layout.now) members.now) }
 {
     for relation in members {
         pipes.push(layout.backward_pipe(alloc, *relation)?)?;
@@ -143,7 +145,8 @@ impl Layout<'_> {
     // Adds the ports of the keys that children pass forward.
     fn add_keys_forward(&self, ports: &mut Vec<Port>, children: &[u32]) -> Result<(), Memory>
         requires layout { IsLayout self.now }
-        ensures { OnOk result (ports.new.items ≡ ports.old.items ++ map (keys_forward self.now) children.now) }
+        ensures { OnOk result (ports.new.items
+            ≡ ports.old.items ++ map (keys_forward self.now) children.now) }
     {
         for child in children {
             let keys = self.port(Region::ForwardKeys(*child), self.parent_of(*child));
@@ -155,7 +158,8 @@ impl Layout<'_> {
     // Adds the ports of the keys that children read backward.
     fn add_keys_backward(&self, ports: &mut Vec<Port>, children: &[u32]) -> Result<(), Memory>
         requires layout { IsLayout self.now }
-        ensures { OnOk result (ports.new.items ≡ ports.old.items ++ map (keys_backward self.now) children.now) }
+        ensures { OnOk result (ports.new.items
+            ≡ ports.old.items ++ map (keys_backward self.now) children.now) }
     {
         for child in children {
             let keys = self.port(Region::BackwardKeys(*child), self.parent_of(*child));

@@ -39,7 +39,8 @@ pub fn plan_of<P: Placement + Drop>(
     morsel: u32,
 ) -> Result<Plan<P>, Memory>
     requires { AreParts P.seen tree.now items.now edges.items rows.items morsel }
-    ensures plan { IfOk result (λ plan. plan ≡ transfer_plan tree.now items.now edges.items rows.items morsel) }
+    ensures plan { IfOk result (λ plan. plan
+        ≡ transfer_plan tree.now items.now edges.items rows.items morsel) }
     ensures valid { IfOk result (λ plan. IsValid (shape_of P.seen plan)) }
 {
     let keyed = !edges.is_empty();
@@ -71,7 +72,8 @@ fn words<P>(
     edges: &[Edge<P>],
     regions: &[Region],
 ) -> Result<Vec<u32>, Memory>
-    ensures { IfOk result (λ all. all.items ≡ map (words_of_region links.now items.now edges.now) regions.now) }
+    ensures { IfOk result (λ all. all.items
+        ≡ map (words_of_region links.now items.now edges.now) regions.now) }
 {
     let mut words = Vec::new(alloc);
     for region in regions {

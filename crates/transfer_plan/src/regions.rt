@@ -35,7 +35,8 @@ fn add_upward(
     keyed: bool,
     members: &[u32],
 ) -> Result<(), Memory>
-    ensures { OnOk result (regions.new.items ≡ regions.old.items ++ forward_all tree.now keyed members.now) }
+    ensures { OnOk result (regions.new.items
+        ≡ regions.old.items ++ forward_all tree.now keyed members.now) }
 {
     for relation in members {
         add_forward(regions, tree, keyed, *relation)?;
@@ -51,7 +52,8 @@ fn add_downward(
     keyed: bool,
     members: &[u32],
 ) -> Result<(), Memory>
-    ensures { OnOk result (regions.new.items ≡ regions.old.items ++ backward_all tree.now keyed members.now) }
+    ensures { OnOk result (regions.new.items
+        ≡ regions.old.items ++ backward_all tree.now keyed members.now) }
 {
     for relation in members {
         add_backward(alloc, regions, tree, keyed, *relation)?;
@@ -66,7 +68,8 @@ fn add_forward(
     keyed: bool,
     relation: u32,
 ) -> Result<(), Memory>
-    ensures { OnOk result (regions.new.items ≡ regions.old.items ++ forward_own tree.now keyed relation) }
+    ensures { OnOk result (regions.new.items
+        ≡ regions.old.items ++ forward_own tree.now keyed relation) }
 {
     regions.push(Region::Forward(relation))?;
     if !has_keys(tree, keyed, relation) {
@@ -84,7 +87,8 @@ fn add_backward(
     keyed: bool,
     relation: u32,
 ) -> Result<(), Memory>
-    ensures { OnOk result (regions.new.items ≡ regions.old.items ++ backward_own tree.now keyed relation) }
+    ensures { OnOk result (regions.new.items
+        ≡ regions.old.items ++ backward_own tree.now keyed relation) }
 {
     regions.push(Region::Backward(relation))?;
     if !keyed {
@@ -96,7 +100,8 @@ fn add_backward(
 
 // Adds the regions of the keys that children read.
 fn add_keys(regions: &mut Vec<Region>, children: &[u32]) -> Result<(), Memory>
-    ensures { OnOk result (regions.new.items ≡ regions.old.items ++ map region.BackwardKeys children.now) }
+    ensures { OnOk result (regions.new.items
+        ≡ regions.old.items ++ map region.BackwardKeys children.now) }
 {
     for child in children {
         regions.push(Region::BackwardKeys(*child))?;
