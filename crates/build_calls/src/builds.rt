@@ -116,7 +116,9 @@ fn put_finds<R: Threads + Sync>(
         return Err(CaseError::Range);
     }
     let build = Build::make(rt, alloc, keys, parts)?;
-    put_all(alloc, &build, lines.finds, given)
+    let done = put_all(alloc, &build, lines.finds, given);
+    drop(build);
+    done
 }
 
 // Workers look up in one build.

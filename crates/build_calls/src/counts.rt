@@ -4,7 +4,9 @@ use morsel_pipeline::add_counts;
 
 /// Puts the sum of two numbers of tuples, if there is one.
 pub fn put_sum(text: &str, given: &mut String) -> Result<(), CaseError> {
-    let (a, b) = text.split_once(' ').ok_or(CaseError::Word)?;
+    let Some((a, b)) = text.split_once(' ') else {
+        return Err(CaseError::Word);
+    };
     match add_counts(count_of(a)?, count_of(b)?) {
         Some(sum) => put(given, format_args!("{sum}\n")),
         None => put(given, "none\n"),

@@ -45,8 +45,14 @@ fn push_row(
     ensures kinds { OnOk result (table.new.kinds ≡ kind.Int ∷ kind.Text ∷ []) }
     ensures rows { OnOk result (length table.new.rows ≡ length table.old.rows + 1) }
 {
-    let number = int_of(number.ok_or(CaseError::Word)?)?;
-    let text = Str::from_text(alloc, text.ok_or(CaseError::Word)?)?;
+    let Some(number) = number else {
+        return Err(CaseError::Word);
+    };
+    let number = int_of(number)?;
+    let Some(text) = text else {
+        return Err(CaseError::Word);
+    };
+    let text = Str::from_text(alloc, text)?;
     table.push_row(&[Value::Int(number), Value::Text(text)])?;
     Ok(())
 }

@@ -20,12 +20,22 @@ pub fn put_given(alloc: Global, case: &Case, given: &mut String) -> Result<(), C
     if !is_graph(&sets) {
         return Err(CaseError::Range);
     }
-    let graph = Graph::of(alloc, &sets)?;
+    put_asked(alloc, &Graph::of(alloc, &sets)?, case, given)
+}
+
+// Puts what is asked of a graph.
+fn put_asked(
+    alloc: Global,
+    graph: &Graph,
+    case: &Case,
+    given: &mut String,
+) -> Result<(), CaseError> {
+    let entries = case.entries.as_slice();
     match case.word.as_str() {
-        "graph" => shared::put_graph(alloc, &graph, &case.entries, given),
-        "join_tree" => trees::put_join_trees(alloc, &graph, &case.entries, given),
-        "grow" => trees::put_grown(alloc, &graph, &case.entries, given),
-        "safe_set" => trees::put_safe(alloc, &graph, &case.entries, given),
+        "graph" => shared::put_graph(alloc, graph, entries, given),
+        "join_tree" => trees::put_join_trees(alloc, graph, entries, given),
+        "grow" => trees::put_grown(alloc, graph, entries, given),
+        "safe_set" => trees::put_safe(alloc, graph, entries, given),
         _ => Err(CaseError::Word),
     }
 }

@@ -1,5 +1,5 @@
 // Numbers, sets of them, and the variables of relations, as they are written.
-use case_text::{CaseError, number_of};
+use case_text::{CaseError, number_of, push_read};
 use std::alloc::Global;
 
 /// The variables of each relation. A blank stands between two relations and a comma between two variables, and a relation
@@ -7,7 +7,7 @@ use std::alloc::Global;
 pub fn sets_of(alloc: Global, text: &str) -> Result<Vec<Vec<u32>>, CaseError> {
     let mut sets = Vec::new(alloc);
     for set in text.split_whitespace() {
-        sets.push(numbers_between(alloc, set)?)?;
+        push_read(&mut sets, numbers_between(alloc, set))?;
     }
     Ok(sets)
 }
@@ -18,7 +18,7 @@ fn numbers_between(alloc: Global, set: &str) -> Result<Vec<u32>, CaseError> {
         return Ok(numbers);
     }
     for number in set.split(',') {
-        numbers.push(number_of(Some(number))?)?;
+        push_read(&mut numbers, number_of(Some(number)))?;
     }
     Ok(numbers)
 }

@@ -20,23 +20,14 @@ pub fn put_graph(
         if entry.word.as_str() != "pair" {
             return Err(CaseError::Word);
         }
-        put_pair(
-            alloc,
-            graph,
-            &numbers_of(alloc, entry.rest.as_str())?,
-            given,
-        )?;
+        put_pair(alloc, graph, entry.rest.as_str(), given)?;
     }
     Ok(())
 }
 
-fn put_pair(
-    alloc: Global,
-    graph: &Graph,
-    pair: &[u32],
-    given: &mut String,
-) -> Result<(), CaseError> {
-    let [i, j] = pair else {
+fn put_pair(alloc: Global, graph: &Graph, pair: &str, given: &mut String) -> Result<(), CaseError> {
+    let pair = numbers_of(alloc, pair)?;
+    let [i, j] = pair.as_slice() else {
         return Err(CaseError::Number);
     };
     if *i >= graph.relations() || *j >= graph.relations() {

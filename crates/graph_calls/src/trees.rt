@@ -56,23 +56,42 @@ pub fn put_grown(
     entries: &[Entry],
     given: &mut String,
 ) -> Result<(), CaseError> {
-    let (sizes, first) = match entries {
-        [sizes] => (sizes_of(alloc, graph, sizes)?, graph.all()),
-        [sizes, first] => (sizes_of(alloc, graph, sizes)?, set_of(alloc, first)?),
+    let tree = match entries {
+        [sizes] => grown(alloc, graph, &sizes_of(alloc, graph, sizes)?),
+        [sizes, first] => {
+            let sizes = sizes_of(alloc, graph, sizes)?;
+            grown_from(alloc, graph, &sizes, set_of(alloc, first)?)
+        }
         _ => return Err(CaseError::Word),
     };
+    put_weighed(graph, &tree?, given);
+    Ok(())
+}
+
+fn grown(alloc: Global, graph: &Graph, sizes: &[u32]) -> Result<Tree, CaseError> {
+    if sizes.len() != graph.relations() as usize {
+        return Err(CaseError::Range);
+    }
+    Ok(grow(alloc, graph, sizes, &[graph.all()])?)
+}
+
+// The tree that lists the relations of a set before the rest.
+fn grown_from(
+    alloc: Global,
+    graph: &Graph,
+    sizes: &[u32],
+    first: RelSet,
+) -> Result<Tree, CaseError> {
     let relations = graph.relations();
     if sizes.len() != relations as usize || !is_set_of(relations, first) {
         return Err(CaseError::Range);
     }
-    let tree = if entries.len() == 1 {
-        grow(alloc, graph, &sizes, &[graph.all()])?
-    } else {
-        grow(alloc, graph, &sizes, &[first, graph.all()])?
-    };
-    put_tree(&tree, given);
-    put_weights(graph, &tree, given);
-    Ok(())
+    Ok(grow(alloc, graph, sizes, &[first, graph.all()])?)
+}
+
+fn put_weighed(graph: &Graph, tree: &Tree, given: &mut String) {
+    put_tree(tree, given);
+    put_weights(graph, tree, given);
 }
 
 // The weights of the links of a tree that needn't be a join list.

@@ -7,7 +7,7 @@ mod reads;
 mod sinks;
 mod writers;
 
-use case_text::{Case, CaseError, number_of, put};
+use case_text::{Case, CaseError, pair_of, put};
 use rpt_outside::{Gate, OpenGate};
 use std::alloc::Global;
 use std::rt::Files as Host;
@@ -19,7 +19,8 @@ pub fn put_given<R: Host + Drop>(
     case: &Case,
     given: &mut String,
 ) -> Result<(), CaseError> {
-    let (head, entries) = (case.head.as_str(), case.entries.as_slice());
+    let head = case.head.as_str();
+    let entries = case.entries.as_slice();
     match case.word.as_str() {
         "memory_files" => reads::put_memory(alloc, head, entries, given),
         "folder_files" => reads::put_folder(rt, alloc, entries, given),
@@ -34,7 +35,7 @@ pub fn put_given<R: Host + Drop>(
 // Passes a gate in a round, as a worker.
 fn put_gate(head: &str, given: &mut String) -> Result<(), CaseError> {
     let mut words = head.split_whitespace();
-    let (round, worker) = (number_of(words.next())?, number_of(words.next())?);
+    let (round, worker) = pair_of(words.next(), words.next())?;
     OpenGate.pass(round, worker);
     put(given, "passed\n");
     Ok(())

@@ -1,5 +1,5 @@
 // Files that are read.
-use case_text::{CaseError, Entry, number_of, put, put_text};
+use case_text::{CaseError, Entry, number_of, push_read, put, put_text};
 use rpt_outside::{Failed, Files, FolderFiles, MemoryFiles, ReadError, read_whole};
 use std::alloc::Global;
 use std::rt::Files as Host;
@@ -49,7 +49,7 @@ fn fail_of(alloc: Global, entries: &[Entry]) -> Result<Vec<u32>, CaseError> {
     let mut fail = Vec::new(alloc);
     for entry in entries {
         if entry.word.as_str() == "fail" {
-            fail.push(number_of(Some(entry.rest.as_str()))?)?;
+            push_read(&mut fail, number_of(Some(entry.rest.as_str())))?;
         }
     }
     Ok(fail)
@@ -71,17 +71,25 @@ fn put_calls<F: Files>(
 ) -> Result<(), CaseError> {
     let mut into = [b'.'; 4];
     for entry in entries {
-        let rest = entry.rest.as_str();
-        match entry.word.as_str() {
-            "file" | "fail" => {}
-            "start" => put_started(files.start_file(&bytes_of(alloc, rest)?), given),
-            "read" => {
-                let read = files.read(&mut into);
-                put_read(read, &into, given);
-            }
-            "whole" => put_whole(alloc, files, rest, given)?,
-            _ => return Err(CaseError::Word),
-        }
+        put_call(alloc, files, entry, &mut into, given)?;
+    }
+    Ok(())
+}
+
+fn put_call<F: Files>(
+    alloc: Global,
+    files: &mut F,
+    entry: &Entry,
+    into: &mut [u8; 4],
+    given: &mut String,
+) -> Result<(), CaseError> {
+    let rest = entry.rest.as_str();
+    match entry.word.as_str() {
+        "file" | "fail" => {}
+        "start" => put_started(files.start_file(&bytes_of(alloc, rest)?), given),
+        "read" => put_read(files.read(into), into, given),
+        "whole" => return put_whole(alloc, files, rest, given),
+        _ => return Err(CaseError::Word),
     }
     Ok(())
 }
@@ -119,7 +127,9 @@ fn put_whole<F: Files>(
     rest: &str,
     given: &mut String,
 ) -> Result<(), CaseError> {
-    let (limit, name) = rest.split_once(' ').ok_or(CaseError::Word)?;
+    let Some((limit, name)) = rest.split_once(' ') else {
+        return Err(CaseError::Word);
+    };
     let limit = number_of(Some(limit))?;
     match read_whole(alloc, files, name.as_bytes(), limit) {
         Ok(bytes) => put_bytes(&bytes, given),

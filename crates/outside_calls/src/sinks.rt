@@ -1,7 +1,7 @@
 // Sinks that take pieces.
 use crate::reads::{bytes_of, put_bytes, put_started};
 use crate::writers::{Broken, Dripping};
-use case_text::{CaseError, Entry, number_of};
+use case_text::{CaseError, Entry, number_of, pair_of, push_read};
 use rpt_outside::{MemorySink, Sink, StreamSink};
 use std::alloc::Global;
 
@@ -15,6 +15,15 @@ pub fn put_memory(
 ) -> Result<(), CaseError> {
     let fail = fail_of(alloc, entries)?;
     let mut sink = MemorySink::new(alloc, number_of(Some(room))?, fail)?;
+    put_taken(alloc, &mut sink, entries, given)
+}
+
+fn put_taken(
+    alloc: Global,
+    sink: &mut MemorySink,
+    entries: &[Entry],
+    given: &mut String,
+) -> Result<(), CaseError> {
     for entry in entries {
         if entry.word.as_str() == "put" {
             let answer = sink.put(&bytes_of(alloc, entry.rest.as_str())?);
@@ -30,7 +39,7 @@ fn fail_of(alloc: Global, entries: &[Entry]) -> Result<Vec<(u32, u32)>, CaseErro
     for entry in entries {
         if entry.word.as_str() == "fail" {
             let mut words = entry.rest.as_str().split_whitespace();
-            fail.push((number_of(words.next())?, number_of(words.next())?))?;
+            push_read(&mut fail, pair_of(words.next(), words.next()))?;
         }
     }
     Ok(fail)

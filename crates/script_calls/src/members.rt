@@ -31,11 +31,18 @@ fn none(alloc: Global) -> Items<Pred> {
     Items::from_vec(Vec::new(alloc))
 }
 
-// Puts what a condition says of the first row.
+// Puts what a condition says of the first row. The condition is dropped in one: held where a function branches, it makes the proof
+// much larger.
 fn put_said(word: &str, pred: Pred, table: &Table, given: &mut String) -> Result<(), CaseError> {
-    if !is_typed(&pred, table) || table.rows() == 0 {
+    let done = put_held(word, &pred, table, given);
+    drop(pred);
+    done
+}
+
+fn put_held(word: &str, pred: &Pred, table: &Table, given: &mut String) -> Result<(), CaseError> {
+    if !is_typed(pred, table) || table.rows() == 0 {
         return Err(CaseError::Range);
     }
-    put(given, format_args!("{word} {}\n", holds(&pred, table, 0)));
+    put(given, format_args!("{word} {}\n", holds(pred, table, 0)));
     Ok(())
 }

@@ -23,13 +23,22 @@ fn put_refusal(error: BindError, given: &mut String) {
 }
 
 fn put_query(bound: &Bound, given: &mut String) {
+    put_relations(bound, given);
+    put_equalities(bound, given);
+    put_variables(bound, given);
+    put_titles(bound, given);
+}
+
+fn put_relations(bound: &Bound, given: &mut String) {
     for relation in 0..bound.relations() {
         let alias = bound.alias(relation).as_str();
         let table = bound.decl(bound.table_of(relation)).name.as_str();
         let local = bound.local(relation);
         put(given, format_args!("{alias} of {table} {local:?}\n"));
     }
-    put_equalities(bound, given);
+}
+
+fn put_variables(bound: &Bound, given: &mut String) {
     for variable in 0..bound.variables() {
         put_columns(bound.columns_of(variable), given);
     }
@@ -39,6 +48,9 @@ fn put_query(bound: &Bound, given: &mut String) {
         put(given, format_args!(" {set:?}"));
     }
     put(given, "\n");
+}
+
+fn put_titles(bound: &Bound, given: &mut String) {
     for column in bound.output() {
         let (relation, number) = (column.source.relation, column.source.column);
         let title = column.title.as_str();

@@ -2,7 +2,7 @@
 ghost use Rattle.std.specs.Prelude.{◌<◌};
 
 use crate::printing::printed;
-use case_text::{CaseError, number_of, put};
+use case_text::{CaseError, pair_of, put};
 use std::alloc::Global;
 
 // A number that says which way is taken where several are open.
@@ -42,7 +42,7 @@ const LEVELS: u32 = 6;
 /// the numbers from the first to the last.
 pub fn put_walks(alloc: Global, numbers: &str, given: &mut String) -> Result<(), CaseError> {
     let mut words = numbers.split_whitespace();
-    let (first, last) = (number_of(words.next())?, number_of(words.next())?);
+    let (first, last) = pair_of(words.next(), words.next())?;
     let mut same = 0u32;
     for number in first..=last {
         if is_read_back(alloc, u64::from(number))? {

@@ -1,5 +1,5 @@
 // Tables that are made row by row.
-ghost use Rattle.std.specs.Prelude.{◌≡◌, ◌<◌, ◌∷◌, [], OnOk, length};
+ghost use Rattle.std.specs.Prelude.{◌≡◌, ◌+◌, ◌<◌, ◌≤◌, ◌∷◌, [], OnOk, length};
 ghost use Rattle.rpt_base.specs.declared.limits.TheConstants.{MAX_ROWS};
 ghost use Rattle.rpt_base.specs.declared.values.ColumnType.TheVariants as kind;
 
@@ -11,8 +11,14 @@ use std::alloc::Global;
 
 // A number, and a text in quotes.
 fn parts_of(entry: &Entry) -> Result<(i64, &str), CaseError> {
-    let (number, text) = entry.rest.as_str().split_once(' ').ok_or(CaseError::Word)?;
-    Ok((int_of(number)?, quoted(text).ok_or(CaseError::Word)?))
+    let Some((number, text)) = entry.rest.as_str().split_once(' ') else {
+        return Err(CaseError::Word);
+    };
+    let number = int_of(number)?;
+    match quoted(text) {
+        Some(text) => Ok((number, text)),
+        None => Err(CaseError::Word),
+    }
 }
 
 /// Puts a table of a number and a text, once a row of each line is pushed.
@@ -31,10 +37,17 @@ fn push_rows(alloc: Global, table: &mut Table, entries: &[Entry]) -> Result<(), 
     let [first, second] = entries else {
         return Err(CaseError::Word);
     };
-    let (number, text) = parts_of(first)?;
-    let text = Str::from_text(alloc, text)?;
-    table.push_row(&[Value::Int(number), Value::Text(text)])?;
-    let (number, text) = parts_of(second)?;
+    push_entry(alloc, table, first)?;
+    push_entry(alloc, table, second)
+}
+
+fn push_entry(alloc: Global, table: &mut Table, entry: &Entry) -> Result<(), CaseError>
+    requires kinds { table.old.kinds ≡ kind.Int ∷ kind.Text ∷ [] }
+    requires few { length table.old.rows ≤ 1 }
+    ensures kinds { OnOk result (table.new.kinds ≡ table.old.kinds) }
+    ensures rows { OnOk result (length table.new.rows ≡ length table.old.rows + 1) }
+{
+    let (number, text) = parts_of(entry)?;
     let text = Str::from_text(alloc, text)?;
     table.push_row(&[Value::Int(number), Value::Text(text)])?;
     Ok(())

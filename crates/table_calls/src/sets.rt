@@ -12,13 +12,27 @@ pub fn put_bits(
 ) -> Result<(), CaseError> {
     let mut bits = RowBits::none(alloc, number_of(Some(rows))?)?;
     for entry in entries {
-        let rows = numbers_of(alloc, entry.rest.as_str())?;
-        match entry.word.as_str() {
-            "set" => set_rows(&mut bits, &rows)?,
-            "get" => get_rows(&bits, &rows, given)?,
-            _ => return Err(CaseError::Word),
-        }
+        take(alloc, &mut bits, entry, given)?;
     }
+    put_listed(alloc, &bits, given)
+}
+
+// Takes rows into a set, or puts whether it has them.
+fn take(
+    alloc: Global,
+    bits: &mut RowBits,
+    entry: &Entry,
+    given: &mut String,
+) -> Result<(), CaseError> {
+    let rows = numbers_of(alloc, entry.rest.as_str())?;
+    match entry.word.as_str() {
+        "set" => set_rows(bits, &rows),
+        "get" => get_rows(bits, &rows, given),
+        _ => Err(CaseError::Word),
+    }
+}
+
+fn put_listed(alloc: Global, bits: &RowBits, given: &mut String) -> Result<(), CaseError> {
     let listed = bits.listed(alloc)?;
     let listed = listed.as_slice();
     put(
