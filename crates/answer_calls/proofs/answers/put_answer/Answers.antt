@@ -1,4 +1,5 @@
 use Rattle.std.proofs.Common.{◌≡◌, ◌∙◌, ap, subst, sym, arith, ℕ, ◌<◌, List, length}
+use Rattle.std.proofs.lemmas.Grind.{common_steps}
 use Rattle.std.specs.Prelude.{slice_index}
 use Rattle.std.proofs.lemmas.List.FromFn.{length-map-range_with_len}
 use Rattle.rpt_base.specs.declared.filters.FilterKind.{FilterKind}
@@ -52,3 +53,6 @@ put_kept-requires-clause-items g c r within =
     let items = items-are b tables c.args.filter tree 1024 c.in-Ok-answered.outcome.transfer parents c.in-Ok-answered.ensures.transfer r less in
     let here = ap (λ (ns : List ℕ). slice_index ns r) seen in
     omega (arith, here, items)
+
+pub put_kept-requires-clause-few : goal.put_kept-requires-clause-few
+put_kept-requires-clause-few g c = grind (arith, common_steps)

@@ -1,4 +1,5 @@
-use Rattle.std.proofs.Common.{◌∙◌, ap, sym, List, [], ◌∷◌, ◌++◌, map, take}
+use Rattle.std.proofs.Common.{◌∙◌, ap, sym, List, [], ◌∷◌, ◌++◌, map, take, arith}
+use Rattle.std.proofs.lemmas.Grind.{common_steps}
 use Rattle.std.proofs.lemmas.List.{map-append, take_more}
 use Rattle.std.proofs.lemmas.Option.{get_or_from_slice_get, slice_get_within}
 use Rattle.rpt_base.specs.declared.values.ColumnType.{ColumnType}
@@ -21,3 +22,6 @@ loop-number-preserved c =
     ∙ ap (λ (ks : List (List ColumnType)). ks ++ table.kinds ∷ []) c.loop-number.invariant
     ∙ ap (λ (ts : List ColumnType). map types (take k decls) ++ ts ∷ []) c.in_ok-table_of.ensures
     ∙ sym (ap (map types) next ∙ map-append types (take k decls) (decl ∷ []))
+
+pub returns : goal.returns
+returns c = grind (arith, common_steps)

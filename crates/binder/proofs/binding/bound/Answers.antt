@@ -1,4 +1,5 @@
-use Rattle.std.proofs.Common.{◌∙◌, map, ap}
+use Rattle.std.proofs.Common.{◌∙◌, map, ap, arith}
+use Rattle.std.proofs.lemmas.Grind.{common_steps}
 use Rattle.bound_query.specs.Query.{BoundQuery, Query}
 use Rattle.binder.proofs.BindingFacts.{AreParts, parts-bound, parts-equalities, parts-known, parts-query, parts-widths, tables-few, tables-narrow}
 use Rattle.binder.proofs.ClearFacts.{clear-within}
@@ -78,3 +79,12 @@ returns c =
       equalities = c.in_ok-equalities.ensures;
       output = c.in_ok-output.ensures;
     })
+
+pub same-aliases : goal.same-aliases
+same-aliases c = grind (arith, common_steps)
+
+pub same-tables : goal.same-tables
+same-tables c = grind (arith, common_steps)
+
+pub same-conditions : goal.same-conditions
+same-conditions c = grind (arith, common_steps)

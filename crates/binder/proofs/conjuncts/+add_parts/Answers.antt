@@ -1,4 +1,5 @@
 use Rattle.std.proofs.Common.{◌≡◌, ◌∙◌, ◌++◌, Bor, List, map, ap, sym, subst, arith}
+use Rattle.std.proofs.lemmas.Grind.{common_steps}
 use Rattle.std.specs.Prelude.{OnOk}
 use Rattle.std.specs.List.{flat_map}
 use Rattle.std.proofs.lemmas.List.{map_push}
@@ -24,3 +25,6 @@ add_parts-returns-in_ok-push-in_default t c =
 pub add_all_parts-returns : goal.add_all_parts-returns
 add_all_parts-returns t c =
     gathered-end parts_of c.args.conds.now (map (λ d. d.now) c.args.found.now.items) (map (λ d. d.now) c.loop-cond.found.items) c.loop-cond.cond-index (omega arith) c.loop-cond.invariant
+
+pub add_all_parts-loop-cond-preserved : goal.add_all_parts-loop-cond-preserved
+add_all_parts-loop-cond-preserved t c = grind (arith, common_steps)

@@ -1,4 +1,5 @@
 use Rattle.std.proofs.Common.{◌∙◌, ◌++◌, [], List, map, ap, sym, arith}
+use Rattle.std.proofs.lemmas.Grind.{common_steps}
 use Rattle.std.specs.List.{flat_map}
 use Rattle.std.specs.Option.{option_to_list}
 use Rattle.sql_grammar.specs.declared.tree.Cond.{Cond}
@@ -15,3 +16,6 @@ returns c =
     c.in_ok-add_some-2.ensures
     ∙ ap (λ front. front ++ flat_map parts_of (option_to_list c.args.script.now.select.filter)) (all ∙ ap (flat_map parts) c.as_slice-source-items.ensures)
     ∙ sym (conjuncts-script c.args.script.now)
+
+pub loop-source-preserved : goal.loop-source-preserved
+loop-source-preserved c = grind (arith, common_steps)

@@ -1,4 +1,5 @@
 use Rattle.std.proofs.Common.{◌∙◌, ◌++◌, [], ◌∷◌, map, ap, arith}
+use Rattle.std.proofs.lemmas.Grind.{common_steps}
 use Rattle.std.specs.List.{enumerate_from}
 use Rattle.binder.specs.Binding.{column_output}
 use Rattle.binder.proofs.GatherFacts.{numbered-end}
@@ -14,3 +15,6 @@ returns c =
     let shown = shown-columns c.args.relation (enumerate_from 0 columns) ∙ ap (λ columns. map (column_output c.args.relation) (enumerate_from 0 columns)) c.columns-columns.ensures.columns in
     numbered-end (λ c'. column_output c.args.relation c' ∷ []) columns c.args.shown.now.items c.loop-place.shown.items c.loop-place.place (omega arith) c.loop-place.invariant
     ∙ ap (λ more. c.args.shown.now.items ++ more) shown
+
+pub loop-place-preserved : goal.loop-place-preserved
+loop-place-preserved c = grind (arith, common_steps)

@@ -1,4 +1,5 @@
-use Rattle.std.proofs.Common.{◌∙◌, ap, sym}
+use Rattle.std.proofs.Common.{◌∙◌, ap, sym, arith}
+use Rattle.std.proofs.lemmas.Grind.{common_steps}
 use Rattle.predicate.specs.declared.tree.Pred.TheVariants as pred
 use Rattle.binder.proofs.PredFacts.{pred_of-And, pred_of-Or, pred_of-Not, pred_of-Compare, pred_of-Between, pred_of-InList, pred_of-Like}
 use Rattle.binder.proofs.translate.+translated.Goals as goal
@@ -30,3 +31,9 @@ translated-returns-in-InList t c =
 pub translated-returns-in-Like : goal.translated-returns-in-Like
 translated-returns-in-Like t c =
     rw (c.in-Like.is, pred_of-Like c.args.scope.now c.in-Like.at c.in-Like.negated c.in-Like.operand c.in-Like.pattern) c.like.ensures
+
+pub all_translated-loop-cond-preserved : goal.all_translated-loop-cond-preserved
+all_translated-loop-cond-preserved t c = grind (arith, common_steps)
+
+pub all_translated-returns : goal.all_translated-returns
+all_translated-returns t c = grind (arith, common_steps)

@@ -1,4 +1,5 @@
 use Rattle.std.proofs.Common.{◌∙◌, [], ◌∷◌, map, ap, sym, arith}
+use Rattle.std.proofs.lemmas.Grind.{common_steps}
 use Rattle.std.proofs.lemmas.List.Folds.{flat_map-map}
 use Rattle.predicate.specs.declared.tree.Pred.TheVariants as pred
 use Rattle.binder.specs.Binding.{condition_of, conditions_in}
@@ -17,3 +18,6 @@ returns c =
     (c.from_vec.ensures ∙ all
     ∙ sym (flat_map-map (λ d. conditions_in scope r (d ∷ [])) (λ d. d.now) conjuncts)
     ∙ conditions-each scope r (map (λ d. d.now) conjuncts))
+
+pub loop-conjunct-preserved : goal.loop-conjunct-preserved
+loop-conjunct-preserved c = grind (arith, common_steps)

@@ -1,4 +1,5 @@
 use Rattle.std.proofs.Common.{◌≡◌, ◌∷◌, ℕ, List, [], arith, length, length-append, rules, subst, sym, true}
+use Rattle.std.proofs.lemmas.Grind.{common_steps}
 use Rattle.std.specs.Result.{is_ok}
 use Rattle.column_classes.specs.Labels.{ArePairsBefore}
 use Rattle.column_classes.proofs.SetFacts.{each-push}
@@ -15,3 +16,6 @@ relations-preserved c =
       long = omega (arith, length-append c.relations.local.items (c.in_ok-pairs.pairs ∷ []), h.long);
       pairs = each-push P (λ p. p.items) c.relations.local.items c.in_ok-pairs.pairs h.pairs (subst Q (sym h.long) c.in_ok-pairs.ensures);
     })
+
+pub relations-init : goal.relations-init
+relations-init c = grind (arith, common_steps)

@@ -1,4 +1,5 @@
-use Rattle.std.proofs.Common.{◌+◌, ℕ, subst}
+use Rattle.std.proofs.Common.{◌+◌, ℕ, subst, arith}
+use Rattle.std.proofs.lemmas.Grind.{common_steps}
 use Rattle.column_classes.specs.Labels.{ArePairsBefore}
 use Rattle.column_classes.proofs.PairFacts.{pairs-none, pairs-pass}
 use Rattle.column_classes.proofs.variables.pairs_of.Goals as goal
@@ -15,3 +16,6 @@ places-preserved c =
           rw w.pairs-is (subst P w.if-places-i.true w.in_ok-add_pairs.ensures)
       | else-places-i w ↦ rw w.pairs-is (pairs-pass c.args.places.now c.requires c.args.relation c.places.i c.places.pairs.items w.if-places-i.false c.places.invariant)
     ]
+
+pub add_pairs-requires-clause-pairs : goal.add_pairs-requires-clause-pairs
+add_pairs-requires-clause-pairs c = grind (arith, common_steps)

@@ -1,4 +1,5 @@
 use Rattle.std.proofs.Common.{◌≡◌, ◌∷◌, ℕ, List, [], arith, length-append, map, rules, subst, sym, true}
+use Rattle.std.proofs.lemmas.Grind.{common_steps}
 use Rattle.std.specs.Result.{is_ok}
 use Rattle.column_classes.specs.Variables.{AreVariablesOf}
 use Rattle.column_classes.proofs.SetFacts.{each-push}
@@ -15,3 +16,6 @@ relations-preserved c =
       long = omega (arith, length-append c.relations.sets.items (c.in_ok-set.set ∷ []), h.long);
       sets = each-push P (λ s. s.items) c.relations.sets.items c.in_ok-set.set h.sets (subst Q (sym h.long) c.in_ok-set.ensures);
     })
+
+pub relations-init : goal.relations-init
+relations-init c = grind (arith, common_steps)

@@ -1,4 +1,5 @@
 use Rattle.std.proofs.Common.{◌∙◌, ap, sym, arith}
+use Rattle.std.proofs.lemmas.Grind.{common_steps}
 use Rattle.std.proofs.lemmas.Result.{err_from_is_err_and}
 use Rattle.command_words.specs.Words.{no_settings, settings_behind, words_of}
 use Rattle.command_words.proofs.SettingFacts.{behind-all, taken-more, takes-error, words-from, words-length}
@@ -20,3 +21,6 @@ pub returns : goal.returns
 returns c =
     let all = words-length c.args.words.now in
     c.loop-at.invariant.rest ∙ behind-all c.loop-at.settings (words_of c.args.words.now) c.loop-at.at (omega (arith, all, c.loop-at-test.false))
+
+pub overflow_add-at : goal.overflow_add-at
+overflow_add-at c = grind (arith, common_steps)

@@ -1,4 +1,5 @@
-use Rattle.std.proofs.Common.{◌∙◌, ap, length, sym}
+use Rattle.std.proofs.Common.{◌∙◌, ap, length, sym, arith}
+use Rattle.std.proofs.lemmas.Grind.{common_steps}
 use Rattle.std.proofs.lemmas.List.{length-map}
 use Rattle.column_table.specs.Table.{OpenTable}
 use Rattle.column_table.specs.declared.declared.ColumnDecl.{ColumnDecl}
@@ -17,3 +18,9 @@ records-preserved c =
     let next = rw c.in-Ok-true.field-0-test at c.in-Ok-true.ensures.reads in
     rows-more c.args.limit c.args.layout.now.columns c.args.layout.now.header c.args.reader.now c.records.reader c.records.builder c.records.row c.records.invariant (fields_of c.next_into.new.fields) c.next_into.new.self
     c.fill.new.builder c.end_row.new.self next c.records-test.true c.in_ok-fill.ensures.cells c.in_ok-fill.ensures.others c.end_row.ensures
+
+pub returns-clause-rows : goal.returns-clause-rows
+returns-clause-rows c = grind (arith, common_steps)
+
+pub records-init : goal.records-init
+records-init c = grind (arith, common_steps)

@@ -1,4 +1,5 @@
 use Rattle.std.proofs.Common.{◌≡◌, arith, ap, sym, subst, ◌∙◌, get_or}
+use Rattle.std.proofs.lemmas.Grind.{common_steps}
 use Rattle.std.proofs.lemmas.List.{get_or-map, length-map}
 use Rattle.key_codes.specs.Placement.{IsLawful, Places, place_of}
 use Rattle.key_codes.specs.declared.places.Place.{Place}
@@ -15,3 +16,18 @@ returns-clause-inside g c =
     let inside = (subst IsLawful (sym e) (g.met.P.Placement.lawful x)).inside c.args.item (words_of s c.args.port.region) c.requires.inside c.requires.least c.requires.some in
     let is = ap (λ (p : Place). p.word) (c.place.ensures ∙ λ i. place_of (sym e i) c.args.item (get_or (c.as_slice.ensures i) c.args.port.region 0)) in
     omega (arith, inside, is)
+
+pub returns-clause-place : goal.returns-clause-place
+returns-clause-place g c = grind (arith, common_steps)
+
+pub place-requires-clause-item : goal.place-requires-clause-item
+place-requires-clause-item g c = grind (arith, common_steps)
+
+pub bounds-as_slice-port-2 : goal.bounds-as_slice-port-2
+bounds-as_slice-port-2 g c = grind (arith, common_steps)
+
+pub offset_bounds-as_slice-port-2 : goal.offset_bounds-as_slice-port-2
+offset_bounds-as_slice-port-2 g c = grind (arith, common_steps)
+
+pub place-requires-clause-least : goal.place-requires-clause-least
+place-requires-clause-least g c = grind (arith, common_steps)

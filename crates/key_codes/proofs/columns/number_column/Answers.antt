@@ -1,4 +1,5 @@
 use Rattle.std.proofs.Common.{◌≡◌, ◌+◌, ◌<◌, ◌≤◌, ◌++◌, ◌∷◌, [], ◌∙◌, ℕ, List, ap, sym, drop, get_or, length, map, take, arith}
+use Rattle.std.proofs.lemmas.Grind.{common_steps}
 use Rattle.std.proofs.Math.ListN.{set}
 use Rattle.std.proofs.lemmas.List.{append-nil, drop_all, length-map, length-take-le, take_all}
 use Rattle.rpt_base.specs.declared.values.Value.{Value}
@@ -60,3 +61,6 @@ returns-clause-numbered c =
           ∙ append-nil (map number (take c.loop-item.item pairs))
           ∙ ap (map number) all;
     }
+
+pub bounds-numbers-item-in-loop-item : goal.bounds-numbers-item-in-loop-item
+bounds-numbers-item-in-loop-item c = grind (arith, common_steps)

@@ -1,4 +1,5 @@
 use Rattle.std.proofs.Common.{◌∙◌, ◌++◌, ◌∷◌, [], ap, sym, map, take, arith}
+use Rattle.std.proofs.lemmas.Grind.{common_steps}
 use Rattle.std.proofs.lemmas.List.{get_or-map, length-map, map_more}
 use Rattle.key_codes.specs.Codes.{keys_of}
 use Rattle.key_codes.specs.Hashes.{hash_of}
@@ -16,3 +17,6 @@ loop-item-preserved c =
     ∙ (λ i. c.loop-item.invariant i ++ c.item_hash.ensures i ∷ [])
     ∙ ap (λ k. front ++ hash_of k ∷ []) (sym (get_or-map key rows item 0 [] (omega arith)))
     ∙ sym (map_more hash_of (keys_of keys) item [] (omega (arith, length-map rows key)))
+
+pub returns : goal.returns
+returns c = grind (arith, common_steps)

@@ -1,4 +1,5 @@
 use Rattle.std.proofs.Common.{◌∙◌, sym, ap, arith}
+use Rattle.std.proofs.lemmas.Grind.{common_steps}
 use Rattle.key_codes.specs.Hashes.{fnv_from, value_bytes}
 use Rattle.key_codes.specs.Keys.{item_value}
 use Rattle.key_codes.proofs.HashFacts.{key-more}
@@ -10,3 +11,6 @@ loop-place-preserved c =
     c.with_cell-hash.ensures ∙ ap (λ v. fnv_from c.loop-place.hash (value_bytes v)) c.cell.ensures.value
     ∙ ap (λ hash. fnv_from hash (value_bytes value)) c.loop-place.invariant
     ∙ sym (key-more _ c.args.keys.now c.args.item c.loop-place.place (omega arith))
+
+pub returns : goal.returns
+returns c = grind (arith, common_steps)

@@ -1,3 +1,5 @@
+use Rattle.std.proofs.Common.{arith}
+use Rattle.std.proofs.lemmas.Grind.{common_steps}
 use Rattle.std.proofs.lemmas.Result.{IfOk-weaker}
 use Rattle.largest_root.proofs.ChainFacts.{chain-one, grown-one, grown-two}
 use Rattle.largest_root.proofs.HeaviestFacts.{heaviest}
@@ -19,3 +21,9 @@ returns-clause-heaviest c =
     (λ t g. heaviest c.args.graph.now c.args.sizes.now c.args.chain.now t c.relations-relations.ensures.graph c.requires.chain
     (grown-two c.args.graph.now c.args.sizes.now c.args.chain.now (record { 0 = 0 }) t c.requires.chain c.if-chain-eq1.false g))
     c.grow_two.ensures
+
+pub grow_two-requires-clause-then : goal.grow_two-requires-clause-then
+grow_two-requires-clause-then c = grind (arith, common_steps)
+
+pub grow_two-requires-clause-first : goal.grow_two-requires-clause-first
+grow_two-requires-clause-first c = grind (arith, common_steps)

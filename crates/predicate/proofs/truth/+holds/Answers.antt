@@ -1,4 +1,5 @@
-use Rattle.std.proofs.Common.{◌∙◌, ap, sym, rules}
+use Rattle.std.proofs.Common.{◌∙◌, ap, sym, rules, arith}
+use Rattle.std.proofs.lemmas.Grind.{common_steps}
 use Rattle.std.specs.List.{list_all}
 use Rattle.predicate.specs.declared.tree.Pred.TheViews.{the_lemmas}
 use Rattle.predicate.specs.Truth.{is_typed}
@@ -42,3 +43,18 @@ holds-returns-in-And t c =
 pub holds-returns-in-Or : goal.holds-returns-in-Or
 holds-returns-in-Or t c =
     c.some_hold.ensures ∙ rw (c.as_slice-in-Or.ensures, c.in-Or.is) (sym (is_true-Or _ c.in-Or.some))
+
+pub all_hold-loop-pred-preserved : goal.all_hold-loop-pred-preserved
+all_hold-loop-pred-preserved t c = grind (arith, common_steps)
+
+pub some_hold-loop-pred-preserved : goal.some_hold-loop-pred-preserved
+some_hold-loop-pred-preserved t c = grind (arith, common_steps)
+
+pub all_hold-returns-then-not-holds : goal.all_hold-returns-then-not-holds
+all_hold-returns-then-not-holds t c = grind (arith, common_steps)
+
+pub some_hold-returns-then-holds : goal.some_hold-returns-then-holds
+some_hold-returns-then-holds t c = grind (arith, common_steps)
+
+pub all_hold-returns : goal.all_hold-returns
+all_hold-returns t c = grind (arith, common_steps)

@@ -1,4 +1,5 @@
 use Rattle.std.proofs.Common.{◌≡◌, ◌≤◌, ap, arith, length, get_or, ◌++◌, []}
+use Rattle.std.proofs.lemmas.Grind.{elements}
 use Rattle.std.proofs.lemmas.List.{take_all}
 use Rattle.std.proofs.lemmas.Option.{get_or_from_slice_get}
 use Rattle.row_output.specs.OutputText.{rows_text}
@@ -17,3 +18,6 @@ returns c text h =
     let gone : length c.args.answer.now.rows ≤ c.rows.row = omega arith in
     let all = take_all c.rows.row c.args.answer.now.rows gone in
     HasWritten-is _ _ _ (ap (λ rows. text ++ rows_text c.args.bound.now.query c.args.tables.now rows) all) (c.rows.invariant text h)
+
+pub write_row-requires-clause-numbers : goal.write_row-requires-clause-numbers
+write_row-requires-clause-numbers c = grind (arith, elements)

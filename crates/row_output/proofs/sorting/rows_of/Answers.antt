@@ -16,3 +16,6 @@ loop-row-preserved c =
       heads = heads-more c.loop-row.rows.items c.push.new.self.items c.headed.result c.loop-row.invariant.heads pushed
           (subst (λ (xs : List ℕ). IsHead c.headed.result.0 c.headed.result.1 xs) (sym c.headed.ensures.row) c.headed.ensures.heads);
     }
+
+pub returns-clause-rows : goal.returns-clause-rows
+returns-clause-rows c = grind (arith, common_steps)

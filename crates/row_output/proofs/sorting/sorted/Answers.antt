@@ -1,4 +1,5 @@
-use Rattle.std.proofs.Common.{◌≡◌, map}
+use Rattle.std.proofs.Common.{◌≡◌, map, arith}
+use Rattle.std.proofs.lemmas.Grind.{common_steps}
 use Rattle.std.proofs.lemmas.Result.{IfOk-weaker}
 use Rattle.std.specs.List.Sorted.{IsPermutation, IsSorted}
 use Rattle.std.specs.Cmp.Lexicographic.{slice_cmp}
@@ -25,3 +26,6 @@ returns-clause-sorted c =
     (λ a is. sorted-behind c.args.answer.width a.rows c.in_ok-rows.rows.items c.sort_unstable.new.self.items c.as_slice.result.now
     (record { heads = c.in_ok-rows.ensures.heads; wide = c.in_ok-rows.ensures.wide }) c.sort_unstable.ensures.permutation c.sort_unstable.ensures.sorted c.as_slice.ensures.value is)
     c.gathered.ensures
+
+pub returns-then-is_sorted-clause-kept : goal.returns-then-is_sorted-clause-kept
+returns-then-is_sorted-clause-kept c = grind (arith, common_steps)

@@ -1,4 +1,5 @@
 use Rattle.std.proofs.Common.{◌∙◌, ap, subst, sym, arith, length, List, ℕ}
+use Rattle.std.proofs.lemmas.Grind.{common_steps}
 use Rattle.std.specs.Prelude.{IfSome, None, replicate}
 use Rattle.std.proofs.lemmas.List.{take-replicate}
 use Rattle.join_graph.specs.JoinList.{IsAcyclic}
@@ -40,3 +41,6 @@ returns c =
     (c.in_ok-text.ensures
     ∙ ap (λ (o : List ℕ). report_of bound.query bound.known c.in_ok-plan.plan.tree o c.as_slice-lists.result.now None) c.as_slice-order.ensures
     ∙ ap (λ lists. report_of bound.query bound.known c.in_ok-plan.plan.tree c.in_ok-plan.plan.order lists None) c.as_slice-lists.ensures)
+
+pub plan_for-requires-clause-sizes : goal.plan_for-requires-clause-sizes
+plan_for-requires-clause-sizes c = grind (arith, common_steps)

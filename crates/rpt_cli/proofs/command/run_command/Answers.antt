@@ -1,3 +1,5 @@
+use Rattle.std.proofs.Common.{arith}
+use Rattle.std.proofs.lemmas.Grind.{common_steps}
 use Rattle.rpt_outside.specs.Whole.{bytes_of}
 use Rattle.command_words.specs.Words.{words_of}
 use Rattle.rpt_cli.proofs.Causes.{HasReply-tells}
@@ -25,3 +27,9 @@ returns-clause-write_fault g c = (HasReply-tells (words_of c.args.words.now) (re
 
 pub returns-clause-counts : goal.returns-clause-counts
 returns-clause-counts g c = λ z command said is. HasReply-counts (words_of c.args.words.now) command (returns-clause-reply g c) z said is
+
+pub returns-clause-quiet : goal.returns-clause-quiet
+returns-clause-quiet c = grind (arith, common_steps)
+
+pub returns-clause-silent : goal.returns-clause-silent
+returns-clause-silent c = grind (arith, common_steps)

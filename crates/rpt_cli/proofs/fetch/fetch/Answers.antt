@@ -29,3 +29,6 @@ returns-in-Err-TooLarge-clause-refused g c = λ next.
     let large = subst (λ (e : ReadError). Reads files c.args.limit bytes (Err e)) c.in-Err-TooLarge.field-0-is c.in-Err-TooLarge.ensures.reads in
     large-Gives files c.args.limit c.args.name.now next c.too_large.result c.too_large.ensures
     (subst (λ (name : List ℕ). (bytes : List ℕ) × HasContents (files.missing name) (files.told name) bytes × (c.args.limit < length bytes)) c.bytes.ensures.bytes large)
+
+pub returns-in-Ok-clause-refused : goal.returns-in-Ok-clause-refused
+returns-in-Ok-clause-refused g c = tt

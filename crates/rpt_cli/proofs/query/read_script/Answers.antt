@@ -1,4 +1,5 @@
-use Rattle.std.proofs.Common.{◌∙◌, ap, inl, inr}
+use Rattle.std.proofs.Common.{◌∙◌, ap, inl, inr, arith}
+use Rattle.std.proofs.lemmas.Grind.{common_steps}
 use Rattle.std.specs.Prelude.{Err}
 use Rattle.rpt_cli.proofs.ScriptFacts.{answer_of, bad-only-as, read-only-as}
 use Rattle.rpt_cli.proofs.query.read_script.Goals as goal
@@ -25,3 +26,6 @@ returns-in-Err-TooDeep-clause-only c =
     read-only-as c.args.bytes.now c.deref.result.now c.parse.result _ (ap answer_of (c.in-Err-TooDeep.is ∙ ap Err c.in-Err-TooDeep.field-0-is))
     (λ others lists. c.deref.ensures.value ∙ c.in-Ok.ensures.only others lists)
     (λ offset bad. elim (c.in-Ok.ensures.bad_only offset bad) [ inl m ↦ cc m | inr a ↦ cc a ]) c.parse.ensures.only
+
+pub returns-in-Ok-parse-clause-says : goal.returns-in-Ok-parse-clause-says
+returns-in-Ok-parse-clause-says c = grind (arith, common_steps)

@@ -1,4 +1,5 @@
-use Rattle.std.proofs.Common.{◌≡◌, ◌∙◌, ◌++◌, [], Some, ap, map, sym}
+use Rattle.std.proofs.Common.{◌≡◌, ◌∙◌, ◌++◌, [], Some, ap, map, sym, arith}
+use Rattle.std.proofs.lemmas.Grind.{common_steps}
 use Rattle.std.specs.Vec.Iter.{into_iter_items}
 use Rattle.std.proofs.lemmas.List.{append-nil, nil_from_length}
 use Rattle.sample_gen.specs.Tables.{named_text}
@@ -13,3 +14,6 @@ returns c =
     let all : made ≡ map (file_of folder) (map named_text c.args.tables.items) =
     sym (append-nil made) ∙ ap (λ left. made ++ map (file_of folder) (map named_text left)) (sym none) ∙ c.loop-name.invariant.files in
     c.new.ensures.contents ∙ (λ i name. Some (held-file_bytes c.loop-name.files.items folder (map named_text c.args.tables.items) name all i))
+
+pub loop-name-preserved : goal.loop-name-preserved
+loop-name-preserved c = grind (arith, common_steps)

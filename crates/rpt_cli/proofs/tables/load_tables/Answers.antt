@@ -1,4 +1,5 @@
 use Rattle.std.proofs.Common.{◌∙◌, subst, sym, ◌+◌, List, arith}
+use Rattle.std.proofs.lemmas.Grind.{common_steps}
 use Rattle.column_table.specs.Table.{Rows}
 use Rattle.std.proofs.lemmas.Result.{err_from_is_err_and}
 use Rattle.rpt_cli.proofs.TableFacts.{HasCome, HasCome-AreTables, HasCome-ends, HasCome-next, HasCome-refused, pushed}
@@ -30,3 +31,9 @@ pub returns-clause-passes : goal.returns-clause-passes
 returns-clause-passes g c =
     HasCome-ends g.F.Files c.args.folder.now c.args.files.now c.tables.files c.args.bound.now.query c.tables.room c.tables.tables.items c.tables.number
     c.tables.invariant (omega (arith, c.tables-test.false, c.tables-number-end.ensures.count))
+
+pub tables-init : goal.tables-init
+tables-init c = grind (arith, common_steps)
+
+pub returns-then-is_err-clause-refused : goal.returns-then-is_err-clause-refused
+returns-then-is_err-clause-refused c = grind (arith, common_steps)

@@ -1,4 +1,5 @@
 use Rattle.std.proofs.Common.{◌≡◌, ◌∙◌, ◌++◌, ◌∷◌, [], ap, sym, arith, ℕ, List, length, map}
+use Rattle.std.proofs.lemmas.Grind.{common_steps}
 use Rattle.std.specs.List.{range_with_len}
 use Rattle.std.proofs.lemmas.List.FromFn.{map-range_with_len_more}
 use Rattle.join_laws.specs.Selected.{selected_rows}
@@ -25,3 +26,6 @@ returns-clause-rows c =
     let rows_of : ℕ → List ℕ = selected_rows c.args.bound.now c.args.tables.now in
     let all : c.relations.relation ≡ length c.args.bound.now.query.table_of = omega (arith, c.relations-test.false, c.relations-relation-end.ensures.count, c.relations.auto.relation-end) in
     selected-lists c.args.bound.now c.args.tables.now c.relations.selection.rows.items (c.relations.invariant.rows_are ∙ ap (λ (n : ℕ). map rows_of (range_with_len 0 n)) all)
+
+pub returns-clause-counts : goal.returns-clause-counts
+returns-clause-counts c = grind (arith, common_steps)

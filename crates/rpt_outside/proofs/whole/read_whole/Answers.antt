@@ -37,3 +37,45 @@ loop-bytes-preserved g c =
       contents = c.read.ensures.contents ∙ before.contents;
       later = λ name. omega (arith, before.later name, c.read.ensures.later name);
     }
+
+pub returns-then-len-limit-clause-leaves : goal.returns-then-len-limit-clause-leaves
+returns-then-len-limit-clause-leaves g c = grind (arith, common_steps)
+
+pub loop-bytes-init : goal.loop-bytes-init
+loop-bytes-init g c = grind (arith, common_steps)
+
+pub returns-then-len-limit-clause-later : goal.returns-then-len-limit-clause-later
+returns-then-len-limit-clause-later g c = grind (arith, common_steps)
+
+pub returns-in-Err-clause-leaves : goal.returns-in-Err-clause-leaves
+returns-in-Err-clause-leaves g c = grind (arith, common_steps)
+
+pub returns-in-Ok-eq0-clause-leaves : goal.returns-in-Ok-eq0-clause-leaves
+returns-in-Ok-eq0-clause-leaves g c = grind (arith, common_steps)
+
+pub loop-bytes-smaller : goal.loop-bytes-smaller
+loop-bytes-smaller g c = grind (arith, common_steps)
+
+pub slice_bounds-extend_from_slice-end : goal.slice_bounds-extend_from_slice-end
+slice_bounds-extend_from_slice-end g c = grind (arith, common_steps)
+
+pub returns-then-is_err-clause-leaves : goal.returns-then-is_err-clause-leaves
+returns-then-is_err-clause-leaves g c = grind (arith, common_steps)
+
+pub returns-in_default-clause-leaves : goal.returns-in_default-clause-leaves
+returns-in_default-clause-leaves g c = grind (arith, common_steps)
+
+pub returns-then-is_err-2-clause-later : goal.returns-then-is_err-2-clause-later
+returns-then-is_err-2-clause-later g c = grind (arith, common_steps)
+
+pub returns-in-Ok-eq0-clause-reads : goal.returns-in-Ok-eq0-clause-reads
+returns-in-Ok-eq0-clause-reads g c = grind (arith, common_steps)
+
+pub returns-in-Ok-eq0-clause-later : goal.returns-in-Ok-eq0-clause-later
+returns-in-Ok-eq0-clause-later g c = grind (arith, common_steps)
+
+pub returns-in-Err-clause-reads : goal.returns-in-Err-clause-reads
+returns-in-Err-clause-reads g c = grind (arith, common_steps)
+
+pub returns-in-Err-clause-later : goal.returns-in-Err-clause-later
+returns-in-Err-clause-later g c = grind (arith, common_steps)

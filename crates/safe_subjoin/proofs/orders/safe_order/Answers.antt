@@ -1,4 +1,5 @@
 use Rattle.std.proofs.Common.{◌+◌, ℕ, [], ◌∷◌, length, length-append, ap, ◌∙◌, subst, arith}
+use Rattle.std.proofs.lemmas.Grind.{common_steps}
 use Rattle.join_graph.specs.declared.tree.Tree.{Tree}
 use Rattle.join_graph.specs.SafeSet.{IsSafe}
 use Rattle.safe_subjoin.specs.SafeOrder.{IsSafeList, first_of}
@@ -32,3 +33,6 @@ loop-i-preserved c =
       many = ap length c.in-Ok-push.ensures.items ∙ length-append c.loop-i.lists.items (c.in-Ok.tree ∷ []) ∙ ap (λ z. z + 1) c.loop-i.invariant.many;
       each = each-push P c.loop-i.lists.items c.push.new.self.items c.in-Ok.tree c.loop-i.i c.loop-i.invariant.many c.in-Ok-push.ensures.items c.loop-i.invariant.each here;
     }
+
+pub loop-i-init : goal.loop-i-init
+loop-i-init c = grind (arith, common_steps)

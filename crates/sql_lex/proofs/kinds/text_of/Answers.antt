@@ -25,3 +25,6 @@ returns-then-quoted-3-clause-text c =
 pub returns-else-quoted-3-clause-text : goal.returns-else-quoted-3-clause-text
 returns-else-quoted-3-clause-text c =
     text-open c.loop-i.text.items c.args.bytes.now c.loop-i.i c.loop-i-test.false (rw c.if-quoted-3.false at c.loop-i.invariant)
+
+pub loop-i-init : goal.loop-i-init
+loop-i-init c = grind (arith, common_steps)

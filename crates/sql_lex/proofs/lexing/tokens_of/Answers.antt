@@ -1,4 +1,5 @@
 use Rattle.std.proofs.Common.{length, sym, ap, ◌∙◌, arith, length-drop}
+use Rattle.std.proofs.lemmas.Grind.{common_steps}
 use Rattle.sql_lex.proofs.Found.{item_at-sized}
 use Rattle.sql_lex.proofs.Steps.{at_item}
 use Rattle.sql_lex.proofs.lexing.tokens_of.Goals as goal
@@ -24,3 +25,9 @@ loop-rest-preserved c =
       within = omega arith;
       said = at_item _ _ _ _ _ c.in-Some.kind c.in-Some.size _ _ _ _ invariant.said found sized.0 c.skipped-rest.ensures (omega arith) c.offset_of-start.ensures c.offset_of.ensures c.in_ok-push_given.ensures;
     }
+
+pub offset_of-requires-clause-within : goal.offset_of-requires-clause-within
+offset_of-requires-clause-within c = grind (arith, common_steps)
+
+pub returns : goal.returns
+returns c = grind (arith, common_steps)

@@ -1,4 +1,5 @@
-use Rattle.std.proofs.Common.{sym, subst, codes, List, Bool}
+use Rattle.std.proofs.Common.{sym, subst, codes, List, Bool, arith}
+use Rattle.std.proofs.lemmas.Grind.{common_steps}
 use Rattle.std.specs.Prelude.{OnOk}
 use Rattle.sql_grammar.specs.declared.tree.Cond.{Cond}
 use Rattle.sql_grammar.specs.declared.tree.Cond.TheVariants as condition
@@ -27,3 +28,12 @@ put_cond-returns-in-Or t c =
     subst (λ (x : Cond). OnOk c.put_joined-in-Or.result (Puts (cond_pieces x c.args.room) c.args.out.now.items c.put_joined-in-Or.new.out.items)) (sym c.in-Or.is)
     (on_same (in_parens (or_is_wrapped c.args.room) (members_pieces (word (codes "OR")) room.InOr any)) (cond_pieces (condition.Or any) c.args.room) c.args.out.now.items c.put_joined-in-Or.new.out.items c.put_joined-in-Or.result
     (λ more. sym (or_pieces any c.args.room more)) put)
+
+pub put_members-loop-member-preserved : goal.put_members-loop-member-preserved
+put_members-loop-member-preserved t c = grind (arith, common_steps)
+
+pub put_members-returns : goal.put_members-returns
+put_members-returns t c = grind (arith, common_steps)
+
+pub put_joined-returns-then-wrapped : goal.put_joined-returns-then-wrapped
+put_joined-returns-then-wrapped t c = grind (arith, common_steps)

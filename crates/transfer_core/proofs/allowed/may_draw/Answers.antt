@@ -1,4 +1,5 @@
 use Rattle.std.proofs.Common.{◌≡◌, ◌↔◌, ◌∙◌, Bool, arith, subst, sym, true}
+use Rattle.std.proofs.lemmas.Grind.{common_steps}
 use Rattle.transfer_core.specs.Steps.{IsAllowed}
 use Rattle.transfer_core.specs.Plans.{shape_of}
 use Rattle.transfer_core.specs.States.{are_writers_marked, core_of}
@@ -15,3 +16,9 @@ returns-then-is_free g c =
     let both = allows_draw s c.args.state.now c.args.actor c.args.pipe k x at pat (c.is_free.ensures.0 c.if-is_free.true) in
     let is = c.has_seen_all.ensures ∙ λ i. are_writers_marked k.seen.items (c.as_slice-pipes.ensures i) (c.as_slice.ensures i) in
     subst (λ (b : Bool). (b ≡ true) ↔ IsAllowed s (core_of c.args.state.now) (step.Draw c.args.actor c.args.pipe)) (sym is) both
+
+pub returns-else-is_free : goal.returns-else-is_free
+returns-else-is_free c = grind (arith, common_steps)
+
+pub returns-then-actor-actors : goal.returns-then-actor-actors
+returns-then-actor-actors c = grind (arith, common_steps)

@@ -1,4 +1,5 @@
 use Rattle.std.proofs.Common.{◌↔◌, IsTrue, true≢false, ap, arith, subst, sym, ℕ, List, length}
+use Rattle.std.proofs.lemmas.Grind.{common_steps}
 use Rattle.transfer_core.specs.Plans.{shape_of}
 use Rattle.transfer_core.specs.States.{ArePut, actor_of, core_of}
 use Rattle.transfer_core.specs.declared.known.Known.{Known}
@@ -35,3 +36,12 @@ returns g c =
     (held_is k.held c.in-Some.held c.args.pipe c.in-Some.is c.if-held-pipe.false) in
     let is = subst (λ (l : List (ℕ × ℕ)). IsTrue c.are_put.result ↔ ArePut s c.args.state.now.words x l c.in-Some.held.1) c.as_slice.ensures.value c.are_put.ensures in
     ((λ t. both.0 (is.0 t)), (λ t. is.1 (both.1 t)))
+
+pub returns-then-held-pipe : goal.returns-then-held-pipe
+returns-then-held-pipe c = grind (arith, common_steps)
+
+pub returns-in_default : goal.returns-in_default
+returns-in_default c = grind (arith, common_steps)
+
+pub are_put-requires-clause-sized : goal.are_put-requires-clause-sized
+are_put-requires-clause-sized c = grind (arith, common_steps)

@@ -1,4 +1,5 @@
 use Rattle.std.proofs.Common.{◌≡◌, ◌<◌, ◌↔◌, ◌∙◌, Bool, ap, arith, subst, sym, ℕ, List, length, get_or, true}
+use Rattle.std.proofs.lemmas.Grind.{common_steps}
 use Rattle.transfer_core.specs.declared.plan.Port.{Port}
 use Rattle.transfer_core.specs.Plans.{HasPlace, shape_of}
 use Rattle.transfer_core.specs.Sealed.{passes}
@@ -26,3 +27,12 @@ returns g c =
     (c.holds.ensures.0 c.if-not-holds.false) (omega (arith, c.if-item-from.false)) (omega (arith, c.if-port-as_slice.false, ap (λ (l : List Port). length l) c.as_slice.ensures)) in
     let is = c.passes.ensures ∙ ap (λ (l : List Port). passes s (regions_of c.args.state.now.words) c.args.item l) c.as_slice-2.ensures in
     subst (λ (b : Bool). (b ≡ true) ↔ IsAllowed s (core_of c.args.state.now) (step.Put c.args.actor c.args.pipe c.args.item c.args.port)) (sym is) both
+
+pub returns-then-not-holds : goal.returns-then-not-holds
+returns-then-not-holds c = grind (arith, common_steps)
+
+pub returns-then-actor-actors : goal.returns-then-actor-actors
+returns-then-actor-actors c = grind (arith, common_steps)
+
+pub passes-requires-clause-sized : goal.passes-requires-clause-sized
+passes-requires-clause-sized c = grind (arith, common_steps)

@@ -1,4 +1,5 @@
 use Rattle.std.proofs.Common.{ℕ, List, ap, sym, ◌∙◌, arith, length, get_or, subst}
+use Rattle.std.proofs.lemmas.Grind.{common_steps}
 use Rattle.std.proofs.lemmas.List.FromFn.{length-map-range_with_len}
 use Rattle.transfer_core.specs.declared.plan.Port.{Port}
 use Rattle.key_codes.specs.declared.places.Place.{Place}
@@ -36,3 +37,6 @@ loop-item-preserved g c = let i = c.loop-item.invariant in
         | else-passes w ↦ ap (λ (v : Vec ℕ). v.items) w.filled-is ∙ fills_none s R c.args.pipe.now.reads c.args.port _ c.loop-item.item c.loop-item.filled.items i.1 (sym is ∙ w.if-passes.false)
       ],
     )
+
+pub passes-requires-clause-sized : goal.passes-requires-clause-sized
+passes-requires-clause-sized c = grind (arith, common_steps)

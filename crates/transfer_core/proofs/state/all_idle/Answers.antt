@@ -1,4 +1,5 @@
 use Rattle.std.proofs.Common.{◌≡◌, ◌∙◌, ◌++◌, [], ◌∷◌, ap, arith, subst, sym, List, length, map, false}
+use Rattle.std.proofs.lemmas.Grind.{common_steps}
 use Rattle.std.proofs.lemmas.List.{length-replicate, map-append, replicate_more}
 use Rattle.transfer_core.specs.declared.plan.Pipe.{Pipe}
 use Rattle.transfer_core.specs.Actors.{Actor, idle}
@@ -24,3 +25,6 @@ loop-preserved g c =
       ap (map actor_of) pushed ∙ map-append actor_of all (k ∷ []) ∙ (λ i. c.loop.invariant.0 i ++ is i ∷ []) ∙ replicate_more c.loop.counter new,
       subst (HasRoomEach s) (sym pushed) (each_snoc (HasRoom s) all k c.loop.invariant.1 room),
     )
+
+pub loop-init : goal.loop-init
+loop-init c = grind (arith, common_steps)

@@ -1,5 +1,5 @@
 use Rattle.std.proofs.Common.{◌∙◌, arith, get_or, lt-ltb}
-use Rattle.std.proofs.lemmas.Grind.{get_or_default_zero}
+use Rattle.std.proofs.lemmas.Grind.{get_or_default_zero, common_steps}
 use Rattle.transfer_core.specs.Plans.{shape_of}
 use Rattle.transfer_core.specs.Job.{job_of}
 use Rattle.transfer_core.proofs.TakingFacts.{draws_next, known_there, room_set}
@@ -17,3 +17,6 @@ returns-then-next-morsels-clause-room g c =
     let s = shape_of g.P.Placement.seen c.args.plan.now in let state = c.args.state.now in let id = c.args.actor in let k = c.index_mut-then-next-morsels.result.now in let p = c.args.pipe in
     let at = known_there state id k c.requires.allowed.0 c.index_mut-then-next-morsels.ensures.value in
     room_set s state.actors.items id c.hold.new.self c.requires.of.room (c.hold.ensures.room s (c.requires.of.room id k at))
+
+pub index_mut-requires-then-next-morsels : goal.index_mut-requires-then-next-morsels
+index_mut-requires-then-next-morsels c = grind (arith, common_steps)

@@ -1,5 +1,5 @@
 use Rattle.std.proofs.Common.{◌∙◌, ap, arith}
-use Rattle.std.proofs.lemmas.Grind.{get_or_default_zero}
+use Rattle.std.proofs.lemmas.Grind.{get_or_default_zero, common_steps}
 use Rattle.transfer_core.specs.Plans.{shape_of}
 use Rattle.transfer_core.specs.States.{held_of}
 use Rattle.transfer_core.proofs.PlainFacts.{lawful_shape}
@@ -54,3 +54,12 @@ returns-clause-room g c =
     let at = known_there state id k c.requires.allowed.0 c.index_mut-2.ensures.value in
     let less = finish_pipe s c.requires.valid (lawful_shape g.P.Placement.seen g.met.P.Placement.lawful c.args.plan.now) state c.requires.of id p c.requires.allowed in
     room_set s state.actors.items id c.end.new.self c.requires.of.room (c.end.ensures.room s less (c.requires.of.room id k at))
+
+pub returns-in_default-clause-after : goal.returns-in_default-clause-after
+returns-in_default-clause-after c = grind (arith, common_steps)
+
+pub index_mut-requires-2 : goal.index_mut-requires-2
+index_mut-requires-2 c = grind (arith, common_steps)
+
+pub index-requires : goal.index-requires
+index-requires c = grind (arith, common_steps)

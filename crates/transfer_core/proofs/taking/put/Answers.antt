@@ -1,4 +1,5 @@
 use Rattle.std.proofs.Common.{◌≡◌, ◌∙◌, ap, arith, subst, sym, List, length, get_or}
+use Rattle.std.proofs.lemmas.Grind.{common_steps}
 use Rattle.transfer_core.specs.Plans.{HasPlace, no_pipe, pipe_at, place_at, shape_of}
 use Rattle.transfer_core.proofs.Lists.{place_of_at}
 use Rattle.transfer_core.specs.declared.plan.Pipe.{Pipe}
@@ -41,3 +42,12 @@ returns-clause-room g c =
     let s = shape_of g.P.Placement.seen c.args.plan.now in let state = c.args.state.now in let id = c.args.actor in let k = c.index_mut.result.now in let p = c.args.pipe in
     let at = known_there state id k c.requires.allowed.0 c.index_mut.ensures.value in
     room_set s state.actors.items id c.list.new.self c.requires.of.room (c.list.ensures.room s (c.requires.of.room id k at))
+
+pub put-requires-clause-word : goal.put-requires-clause-word
+put-requires-clause-word c = grind (arith, common_steps)
+
+pub put-requires-clause-region : goal.put-requires-clause-region
+put-requires-clause-region c = grind (arith, common_steps)
+
+pub index_mut-requires : goal.index_mut-requires
+index_mut-requires c = grind (arith, common_steps)

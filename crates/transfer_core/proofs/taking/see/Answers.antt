@@ -1,5 +1,5 @@
 use Rattle.std.proofs.Common.{◌∙◌, arith, sym, eq-eqb}
-use Rattle.std.proofs.lemmas.Grind.{get_or_default_zero}
+use Rattle.std.proofs.lemmas.Grind.{get_or_default_zero, common_steps}
 use Rattle.transfer_core.specs.Plans.{shape_of}
 use Rattle.transfer_core.proofs.TakingFacts.{known_there, room_set, sees_full}
 use Rattle.transfer_core.proofs.taking.see.Goals as goal
@@ -23,3 +23,6 @@ returns-then-finished-morsels-clause-room g c =
     let s = shape_of g.P.Placement.seen c.args.plan.now in let state = c.args.state.now in let id = c.args.actor in let k = c.index_mut.result.now in let p = c.args.pipe in
     let at = known_there state id k c.requires.allowed.0 c.index_mut.ensures.value in
     room_set s state.actors.items id c.see.new.self c.requires.of.room (c.see.ensures.room s (c.requires.of.room id k at))
+
+pub index_mut-requires : goal.index_mut-requires
+index_mut-requires c = grind (arith, common_steps)

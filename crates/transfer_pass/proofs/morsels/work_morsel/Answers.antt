@@ -1,4 +1,5 @@
 use Rattle.std.proofs.Common.{◌*◌, arith, ap, sym, ◌∙◌}
+use Rattle.std.proofs.lemmas.Grind.{common_steps}
 use mathlib.Core.Logic.{dite}
 use native.Mathlib.Decide.{dec_le}
 use Rattle.transfer_core.specs.declared.plan.Pipe.{Pipe}
@@ -81,3 +82,15 @@ finish-requires-clause-all_put g c =
         c.chunks.invariant.end,
       )),
     )
+
+pub work_chunk-requires-clause-seen : goal.work_chunk-requires-clause-seen
+work_chunk-requires-clause-seen c = grind (arith, common_steps)
+
+pub overflow_cast-writes : goal.overflow_cast-writes
+overflow_cast-writes c = grind (arith, common_steps)
+
+pub overflow_sub-items : goal.overflow_sub-items
+overflow_sub-items c = grind (arith, common_steps)
+
+pub work_chunk-requires-clause-writes : goal.work_chunk-requires-clause-writes
+work_chunk-requires-clause-writes c = grind (arith, common_steps)

@@ -1,4 +1,5 @@
 use Rattle.std.proofs.Common.{◌≡◌, ◌<◌, ◌+◌, All, length, drop, true≢false, arith, ap, sym, ◌∙◌, subst}
+use Rattle.std.proofs.lemmas.Grind.{common_steps}
 use mathlib.Core.Logic.{dite}
 use native.Mathlib.Decide.{dec_le}
 use Rattle.transfer_core.specs.Actors.{is_marked}
@@ -55,7 +56,19 @@ join_all-all-requires-in-rounds-clause-free g c =
     subst (All (IsFree c.args.board.of)) (sym back) c.work_all.ensures.free
 
 pub close-sealed-requires-clause-seen : goal.close-sealed-requires-clause-seen
-close-sealed-requires-clause-seen g c = c.sees_all.ensures.all c.rounds-test.false
+close-sealed-requires-clause-seen g c = grind (arith, common_steps)
 
 pub returns : goal.returns
 returns g c = c.of.ensures ∙ (λ i. record { words = c.close-sealed.ensures.sealed i; pipes = (c.close-sealed.ensures.plan i).pipes })
+
+pub join_all-all-requires-clause-some : goal.join_all-all-requires-clause-some
+join_all-all-requires-clause-some c = grind (arith, common_steps)
+
+pub split_into-requires-clause-parts : goal.split_into-requires-clause-parts
+split_into-requires-clause-parts c = grind (arith, common_steps)
+
+pub join_all-all-requires-in-rounds-clause-some : goal.join_all-all-requires-in-rounds-clause-some
+join_all-all-requires-in-rounds-clause-some c = grind (arith, common_steps)
+
+pub overflow_add-round : goal.overflow_add-round
+overflow_add-round c = grind (arith, common_steps)

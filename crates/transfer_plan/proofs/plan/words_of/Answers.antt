@@ -1,4 +1,5 @@
-use Rattle.std.proofs.Common.{◌≡◌, ◌∙◌, ◌<◌, ap, length, ℕ, List, refl, sym}
+use Rattle.std.proofs.Common.{◌≡◌, ◌∙◌, ◌<◌, ap, length, ℕ, List, refl, sym, arith}
+use Rattle.std.proofs.lemmas.Grind.{common_steps}
 use Rattle.std.specs.Prelude.{slice_index_or}
 use Rattle.std.proofs.lemmas.Bool.{ltb-true}
 use Rattle.std.proofs.lemmas.List.{get_or-map}
@@ -24,3 +25,12 @@ returns-in-Some-get g c =
     let less : c.link_of-in-BackwardKeys.result < length c.args.edges.now = ltb-true c.link_of-in-BackwardKeys.result (length c.args.edges.now) (sym c.in-Some-get.ensures.lookup.0) in
     let at = at_place c.args.edges.now c.link_of-in-BackwardKeys.result c.in-Some-get.edge.now less c.in-Some-get.ensures.lookup.1 in
     rw (c.in-BackwardKeys.is, ← c.link_of-in-BackwardKeys.ensures.link, at) refl
+
+pub returns-in-None-get : goal.returns-in-None-get
+returns-in-None-get g c = grind (arith, common_steps)
+
+pub returns-in-None : goal.returns-in-None
+returns-in-None g c = grind (arith, common_steps)
+
+pub returns-in-Forward : goal.returns-in-Forward
+returns-in-Forward g c = grind (arith, common_steps)

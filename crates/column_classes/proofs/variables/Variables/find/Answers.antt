@@ -1,4 +1,5 @@
 use Rattle.std.proofs.Common.{◌∙◌, ◌<◌, List, [], arith, get_or, length, map, subst}
+use Rattle.std.proofs.lemmas.Grind.{common_steps}
 use Rattle.std.proofs.lemmas.List.{length-map}
 use Rattle.column_classes.specs.Labels.{AreByLabel, ArePairsBefore}
 use Rattle.column_classes.specs.declared.classes.Labelled.{Labelled}
@@ -31,3 +32,15 @@ returns c =
           (let lt : r < length sets = omega (arith, length-map sets (λ s. s.items)) in
           rw (← c.deref-3.ensures.value) (c.in_ok-sets.ensures.sets r lt));
     }
+
+pub invariant_of-result : goal.invariant_of-result
+invariant_of-result c = grind (arith, common_steps)
+
+pub variable_sets-requires : goal.variable_sets-requires
+variable_sets-requires c = grind (arith, common_steps)
+
+pub local_pairs-requires-clause-places : goal.local_pairs-requires-clause-places
+local_pairs-requires-clause-places c = grind (arith, common_steps)
+
+pub variables_of-requires : goal.variables_of-requires
+variables_of-requires c = grind (arith, common_steps)

@@ -1,4 +1,5 @@
 use Rattle.std.proofs.Common.{◌≡◌, arith, refl, to_z, of_z, w64}
+use Rattle.std.proofs.lemmas.Grind.{elements}
 use Rattle.std.proofs.lemmas.Int.{to_z-of_z}
 use Rattle.rpt_base.specs.declared.values.ColumnType.TheVariants as kind
 use Rattle.rpt_base.specs.declared.values.Value.TheVariants as value
@@ -37,3 +38,9 @@ returns-clause-ok c =
     let next = next-is c.self.inside.columns.items c.self.inside.rows c.self.inside.filled c.args.self.now kind.Int c.index_mut-column.result.now c.self.invariant c.self.view_is c.requires c.index_mut-column.ensures.value in
     let number : to_z w64 (of_z w64 c.args.number) ≡ c.args.number = to_z-of_z w64 c.args.number c.ranges.number in
     (shows-put c.self.inside.columns.items c.self.inside.rows c.self.inside.filled c.args.self.now kind.Int c.index_mut-column.result.now c.put_int.new.self (value.Int c.args.number) c.self.invariant c.self.view_is next refl (rw number at c.in_ok-put_int.ensures.ok)).shows
+
+pub index_mut-column-requires : goal.index_mut-column-requires
+index_mut-column-requires c = grind (arith, elements)
+
+pub put_int-requires-clause-kind : goal.put_int-requires-clause-kind
+put_int-requires-clause-kind c = grind (arith, elements)

@@ -1,4 +1,5 @@
 use Rattle.std.proofs.Common.{arith, refl}
+use Rattle.std.proofs.lemmas.Grind.{elements}
 use Rattle.rpt_base.specs.declared.values.ColumnType.TheVariants as kind
 use Rattle.rpt_base.specs.declared.values.Value.TheVariants as value
 use Rattle.column_table.proofs.ColumnFacts.{next-is, shows-cut, shows-put}
@@ -34,3 +35,9 @@ pub returns-clause-ok : goal.returns-clause-ok
 returns-clause-ok c =
     let next = next-is c.self.inside.columns.items c.self.inside.rows c.self.inside.filled c.args.self.now kind.Text c.index_mut-column.result.now c.self.invariant c.self.view_is c.requires c.index_mut-column.ensures.value in
     (shows-put c.self.inside.columns.items c.self.inside.rows c.self.inside.filled c.args.self.now kind.Text c.index_mut-column.result.now c.put_text.new.self (value.Text c.args.text.now) c.self.invariant c.self.view_is next refl c.in_ok-put_text.ensures.ok).shows
+
+pub put_text-requires-clause-kind : goal.put_text-requires-clause-kind
+put_text-requires-clause-kind c = grind (arith, elements)
+
+pub index_mut-column-requires : goal.index_mut-column-requires
+index_mut-column-requires c = grind (arith, elements)

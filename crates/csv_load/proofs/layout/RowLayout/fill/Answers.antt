@@ -1,4 +1,5 @@
 use Rattle.std.proofs.Common.{◌≡◌, ◌∙◌, arith, subst, sym}
+use Rattle.std.proofs.lemmas.Grind.{common_steps}
 use Rattle.std.specs.Prelude.{Err}
 use Rattle.std.proofs.lemmas.Bool.{eqb-true}
 use Rattle.csv.specs.Records.{fields_of}
@@ -30,3 +31,9 @@ pub columns-preserved : goal.columns-preserved
 columns-preserved c =
     filled-more c.self.inside.columns.now (fields_of c.self.inside.header) c.args.row (fields_of c.args.fields.now) c.self.inside.places.items c.self.invariant.0 c.args.builder.now c.columns.builder c.columns.column
     c.index.result.now c.index-self-column.result c.field_at-field.result.now c.columns.invariant c.columns-test.true c.index.ensures c.field_at-field.ensures c.put_field.new.builder (rw c.if-not-branch.false at c.in_ok-put_field.ensures)
+
+pub returns-clause-cells : goal.returns-clause-cells
+returns-clause-cells c = grind (arith, common_steps)
+
+pub overflow_cast-column : goal.overflow_cast-column
+overflow_cast-column c = grind (arith, common_steps)

@@ -1,4 +1,5 @@
 use Rattle.std.proofs.Common.{◌≡◌, ℕ, ◌+◌, ◌*◌, ◌<◌, List, length, map, get_or, length-set, arith, refl, ap, ◌∙◌}
+use Rattle.std.proofs.lemmas.Grind.{common_steps}
 use Rattle.std.specs.Slots.{slots_items}
 use Rattle.std.specs.Vec.{with_items}
 use Rattle.std.proofs.lemmas.List.{with_items_is}
@@ -69,3 +70,15 @@ returns-clause-sealed g c =
     c.of.ensures ∙ regions_are s (map (λ w. w.items) c.loop-region.rooms.items) (length_map (λ w. w.items) s c.loop-region.rooms.items ∙ i.count)
     (λ r l. i.copied r (omega (arith, l, c.loop-region-test.false, end, f.rooms_are.count, length_map (λ w. w.items) s c.self.inside.rooms.items)))
     ∙ ap (λ (b : BoardView g.row.P.Denot). sealed_words (shape_of g.P.Placement.seen b.plan)) c.self.view_is
+
+pub loop-region-init : goal.loop-region-init
+loop-region-init g c = grind (arith, common_steps)
+
+pub index_mut-requires : goal.index_mut-requires
+index_mut-requires g c = grind (arith, common_steps)
+
+pub index-requires : goal.index-requires
+index-requires g c = grind (arith, common_steps)
+
+pub returns-clause-plan : goal.returns-clause-plan
+returns-clause-plan g c = grind (arith, common_steps)

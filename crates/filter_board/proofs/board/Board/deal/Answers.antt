@@ -1,4 +1,5 @@
 use Rattle.std.proofs.Common.{◌≡◌, ◌+◌, ◌-◌, ◌<◌, rules, arith, ap, refl, ◌∙◌}
+use Rattle.std.proofs.lemmas.Grind.{common_steps}
 use Rattle.atomic_table.specs.Table.{Me}
 use Rattle.filter_board.specs.declared.share.Share.{Share}
 use Rattle.filter_board.specs.Shares.{parts_of}
@@ -31,3 +32,9 @@ returns g c = let i = c.loop.invariant in
     let all : c.loop.counter ≡ c.args.self.now.workers = omega (arith, c.requires.workers, c.loop-test.false, c.loop.auto.counter-end, ap (λ (b : BoardView g.row.P.Denot). b.workers) c.self.view_is) in
     let one : c.loop.seat.me.0.parts ≡ parts_of 1 = omega (arith, all, ap (λ (m : Me (Unit {0}) Share). m.0.parts) i.left) in
     one_more _ c.of-2.result c.loop.counter c.args.self.now.workers c.loop.hands.items c.push_reserved-2.new.self.items c.loop.auto.counter all c.push_reserved-2.ensures.items i.dealt (hand_is c.args.self.now.of c.loop.seat.table_id (parts_of 1) c.loop.seat.me _ c.of-2.ensures i.own one)
+
+pub push_reserved-requires : goal.push_reserved-requires
+push_reserved-requires g c = grind (arith, common_steps)
+
+pub push_reserved-requires-2 : goal.push_reserved-requires-2
+push_reserved-requires-2 g c = grind (arith, common_steps)

@@ -1,4 +1,5 @@
 use Rattle.std.proofs.Common.{◌+◌, ◌<◌, length, take, take_all, ℕ, arith, ap, sym, ◌∙◌, subst}
+use Rattle.std.proofs.lemmas.Grind.{common_steps, elements}
 use Rattle.std.specs.Prelude.{bit_or, slice_range}
 use Rattle.filter_board.specs.Runs.{with_all_put}
 use Rattle.filter_board.specs.Views.{HandView, IsRun, job_in, with_actor}
@@ -41,3 +42,15 @@ pub returns : goal.returns
 returns g c = let items = c.args.items.now in
     put_more c.put_run-2.new.hand c.loop-next.hand c.args.hand.now c.args.port items c.loop-next.start (length items) (omega (arith, c.loop-next.invariant.start, c.loop-next.invariant.end)) c.loop-next.invariant.hand c.put_run-2.ensures
     ∙ ap (λ l. with_actor (with_all_put l c.args.port) c.args.hand.now) (take_all (length items) items (omega arith))
+
+pub put_run-requires-clause-run : goal.put_run-requires-clause-run
+put_run-requires-clause-run g c = grind (arith, common_steps)
+
+pub put_run-requires-2-clause-run : goal.put_run-requires-2-clause-run
+put_run-requires-2-clause-run g c = grind (arith, common_steps)
+
+pub returns-then-is_empty : goal.returns-then-is_empty
+returns-then-is_empty g c = grind (arith, common_steps)
+
+pub put_run-requires-clause-items : goal.put_run-requires-clause-items
+put_run-requires-clause-items g c = grind (arith, elements)

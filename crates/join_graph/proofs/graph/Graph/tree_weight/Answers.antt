@@ -1,4 +1,5 @@
-use Rattle.std.proofs.Common.{rules, ◌≡◌, ◌+◌, ◌≤◌, length, subst, sym, ◌∙◌}
+use Rattle.std.proofs.Common.{rules, ◌≡◌, ◌+◌, ◌≤◌, length, subst, sym, ◌∙◌, arith}
+use Rattle.std.proofs.lemmas.Grind.{common_steps}
 use Rattle.join_graph.specs.JoinList.{IsGraph}
 use Rattle.join_graph.specs.Weights.{needed_of, total, weight_of}
 use Rattle.join_graph.proofs.TreeFacts.{tree-le, tree-joins, tree-link, tree-room, tree-sum}
@@ -38,3 +39,6 @@ pub returns-clause-joins : goal.returns-clause-joins
 returns-clause-joins c =
     let joins = tree-joins c.args.self.now (subst IsGraph c.self.view_is c.self.invariant) c.args.tree.now.root c.args.tree.now.links c.requires in
     ((λ e. joins.0 (sym (sum_is c c.loop-link-test.false) ∙ e)), (λ j. sum_is c c.loop-link-test.false ∙ joins.1 j))
+
+pub loop-link-preserved : goal.loop-link-preserved
+loop-link-preserved c = grind (arith, common_steps)

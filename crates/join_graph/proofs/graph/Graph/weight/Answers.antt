@@ -1,4 +1,5 @@
 use Rattle.std.proofs.Common.{rules, ◌≡◌, ◌≤◌, arith, subst}
+use Rattle.std.proofs.lemmas.Grind.{common_steps}
 use Rattle.join_graph.specs.JoinList.{IsGraph, vars_of}
 use Rattle.join_graph.proofs.StoredFacts.{stored, stored-short}
 use Rattle.join_graph.proofs.graph.Graph.weight.Goals as goal
@@ -22,3 +23,6 @@ returns-clause-bounded c = at_most c
 
 pub returns-clause-weight : goal.returns-clause-weight
 returns-clause-weight c = rw (← child_vars c, ← parent_vars c) c.count_shared.ensures.count
+
+pub index-requires-2 : goal.index-requires-2
+index-requires-2 c = grind (arith, common_steps)

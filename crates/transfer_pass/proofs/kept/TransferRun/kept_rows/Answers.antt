@@ -1,4 +1,5 @@
 use Rattle.std.proofs.Common.{◌≡◌, ◌<◌, ◌+◌, ◌++◌, [], ◌∷◌, arith, ap, sym, ◌∙◌, ℕ, List, get_or, map, filter, take, Bool, true, false, cond, refl}
+use Rattle.std.proofs.lemmas.Grind.{common_steps}
 use Rattle.std.specs.List.{range_with_len}
 use Rattle.std.proofs.lemmas.List.{append-nil, map-append, take_all}
 use Rattle.std.proofs.lemmas.List.Elements.{filter_more}
@@ -46,3 +47,6 @@ returns c =
     ∙ ap (λ (l : List ℕ). map (λ k. get_or rows k 0) (filter (has_bit c.args.self.now.words c.kept.inside.region) l)) (take_all item xs (omega (arith, c.loop-item-test.false, length-range_with_len 0 c.kept.inside.items)))
     ∙ ap (λ (k : Written). map (λ (i : ℕ). get_or rows i 0) (filter (has_bit c.args.self.now.words k.region) (range_with_len 0 k.items))) kept
     ∙ ap (λ (n : ℕ). map (λ k. get_or rows k 0) (filter (has_bit c.args.self.now.words (kept_among rel c.args.self.now.pipes).region) (range_with_len 0 n))) (sym c.requires.rows)
+
+pub bounds-rows-item : goal.bounds-rows-item
+bounds-rows-item c = grind (arith, common_steps)

@@ -1,4 +1,5 @@
 use Rattle.std.proofs.Common.{◌<◌, ℕ, length, get_or, arith, ap, ◌∙◌}
+use Rattle.std.proofs.lemmas.Grind.{common_steps}
 use Rattle.transfer_plan.specs.declared.region.Region.TheVariants as region
 use Rattle.transfer_plan.specs.Layouts.{keys_forward}
 use Rattle.transfer_plan.specs.TransferPlan.{port}
@@ -11,3 +12,6 @@ loop-child-preserved c =
     let less : i < length xs = omega arith in
     map_more (keys_forward l) xs i c.args.ports.now.items c.loop-child.ports.items _ _ less c.in_ok-push.ensures.items c.loop-child.invariant
     (c.port-keys.ensures ∙ ap (λ (places : ℕ). port l.tree.now.root l.tree.now.links l.keyed (region.ForwardKeys (get_or xs i 0)) places) c.parent_of.ensures)
+
+pub returns : goal.returns
+returns c = grind (arith, common_steps)

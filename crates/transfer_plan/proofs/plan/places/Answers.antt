@@ -1,0 +1,6 @@
+use Rattle.std.proofs.Common.{arith}
+use Rattle.std.proofs.lemmas.Grind.{common_steps}
+use Rattle.transfer_plan.proofs.plan.places.Goals as goal
+
+pub loop-edge-preserved : goal.loop-edge-preserved
+loop-edge-preserved g c = grind (arith, common_steps)
